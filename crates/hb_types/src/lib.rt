@@ -1,0 +1,5 @@
+//! The types of the language, their order, and the numbers by which its things are known.
+#![tactic(auto)]
+
+pub mod ids;
+pub mod types;

@@ -1,0 +1,63 @@
+//! Types of values and of methods.
+
+ghost use Rattle.std.specs.Prelude.{◌↔◌, IsTrue};
+ghost use Rattle.hb_types.specs.Types.{IsBelow};
+
+use crate::ids::ClassId;
+
+/// How many parameters a method has at most.
+pub const PARAMS_MAX: usize = 4;
+
+/// The type of a value.
+#[derive(Clone, Copy, Debug, PartialEq, Eq, Hash)]
+pub enum Ty {
+    Nil,
+    Bool,
+    Int,
+    Str,
+    Any,
+    Class(ClassId),
+}
+
+/// The type of a method: what it takes and what it gives.
+#[derive(Clone, Copy, Debug, PartialEq, Eq, Hash)]
+pub struct MethodTy {
+    /// How many parameters there are.
+    pub count: u8,
+    /// The parameters in their order, filled with `Nil` past the count.
+    pub params: [Ty; PARAMS_MAX],
+    pub result: Ty,
+}
+
+/// Whether each value of the type `a` is one of the type `b`.
+pub fn below(a: Ty, b: Ty) -> bool
+    ensures { IsTrue result ↔ IsBelow a b }
+{
+    a == b || a == Ty::Nil || b == Ty::Any
+}
+
+#[cfg(test)]
+mod tests {
+    use super::*;
+
+    #[test]
+    fn nil_is_the_least_and_any_the_greatest(rt: HostRuntime) {
+        let (a, b) = (Ty::Class(ClassId(0)), Ty::Class(ClassId(1)));
+        let cases = [
+            (Ty::Nil, Ty::Int, true),
+            (Ty::Int, Ty::Nil, false),
+            (Ty::Str, Ty::Any, true),
+            (Ty::Any, Ty::Str, false),
+            (Ty::Nil, Ty::Any, true),
+            (Ty::Bool, Ty::Bool, true),
+            (Ty::Bool, Ty::Int, false),
+            (a, a, true),
+            (a, b, false),
+            (a, Ty::Any, true),
+            (Ty::Nil, b, true),
+        ];
+        for (one, other, expected) in cases {
+            assert_eq!(rt; below(one, other), expected, "{one:?} below {other:?}");
+        }
+    }
+}
