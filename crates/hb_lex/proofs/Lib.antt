@@ -1,0 +1,10 @@
+pub mod Values
+pub mod Closings
+pub mod Forms
+pub mod Signs
+pub mod Nexts
+pub mod Texts
+pub mod Runs
+pub mod One
+pub mod Columns
+pub mod Standing
