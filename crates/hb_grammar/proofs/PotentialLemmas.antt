@@ -1,0 +1,182 @@
+-- Each turn of a run with one token of sight leaves less to do.
+use Rattle.std.proofs.Common.{◌≡◌, ℕ, ◌≤◌, ◌<◌, ◌+◌, ◌*◌, ◌-◌, List, [], ◌∷◌, ◌++◌, Bool, true, false, Option, Some, None, refl, inl, inr, length, arith, if◌then◌else◌}
+use Rattle.std.proofs.lemmas.Bool.{cases_Bool, both_ways, cond-true, cond-false, ltb-true}
+use Rattle.std.specs.List.{list_all}
+use Rattle.std.specs.Prelude.{nat_lt}
+use Rattle.hb_lex.specs.declared.kinds.TokenKind.{TokenKind}
+use Rattle.hb_lex.specs.declared.kinds.TokenKind.TheVariants as k
+use Rattle.hb_grammar.specs.declared.symbols.Sort.{Sort}
+use Rattle.hb_grammar.specs.declared.symbols.Sort.TheVariants as g
+use Rattle.hb_grammar.specs.declared.symbols.Symbol.{Symbol}
+use Rattle.hb_grammar.specs.declared.symbols.Symbol.TheVariants.{Token as T, Phrase as N}
+use Rattle.hb_grammar.specs.Grammar.{alternatives}
+use Rattle.hb_grammar.specs.Sight.{is_kind, front, choice}
+use Rattle.hb_grammar.proofs.TableLemmas.{sorts}
+use Rattle.hb_grammar.proofs.SightLemmas.{holds_of, is_sort}
+
+-- how many turns a phrase may take, at most, before it reads a token
+abbrev pub weight : Sort → ℕ
+weight g.Program = 2
+weight g.Classes = 1
+weight g.Scripts = 1
+weight g.Block = 11
+weight g.Items = 10
+weight g.MoreItems = 1
+weight g.Expression = 8
+weight g.AfterName = 5
+weight g.OtherUnary = 4
+weight g.Method = 5
+weight g.MethodName = 2
+weight g.Signature = 10
+weight g.Types = 4
+weight g.MoreTypes = 1
+weight g.TypeWord = 2
+weight g.MoreComparison = 1
+weight g.Sum = 10
+weight g.MoreSum = 1
+weight g.Product = 8
+weight g.MoreProduct = 1
+weight g.Unary = 6
+weight g.Postfix = 5
+weight g.MorePostfix = 1
+weight g.Arguments = 1
+weight g.ArgumentList = 10
+weight g.MoreArguments = 1
+weight g.Primary = 3
+weight g.Value = 2
+weight g.ElsePart = 1
+weight g.Parameters = 1
+weight g.MoreParameters = 1
+
+abbrev pub weights : List Symbol → ℕ
+weights [] = 0
+weights (T j ∷ stack) = 1 + weights stack
+weights (N s ∷ stack) = weight s + weights stack
+
+-- the first symbol is the token in sight
+abbrev pub is_next : List Symbol → Option TokenKind → Bool
+is_next [] sight = false
+is_next (T j ∷ stack) sight = is_kind sight j
+is_next (N s ∷ stack) sight = false
+
+pub potential : List Symbol → List TokenKind → ℕ
+potential stack tokens = if is_next stack (front tokens) then 40 * (length tokens - 1) + weights stack else 40 * length tokens + weights stack
+
+weights-append : (a b : List Symbol) → weights (a ++ b) ≡ weights a + weights b
+weights-append [] b = omega arith
+weights-append (T j ∷ a) b = let h : weights (a ++ b) ≡ weights a + weights b = weights-append a b in omega (arith, h)
+weights-append (N s ∷ a) b = let h : weights (a ++ b) ≡ weights a + weights b = weights-append a b in omega (arith, h)
+
+potential-most : (stack : List Symbol) (tokens : List TokenKind) → potential stack tokens ≤ 40 * length tokens + weights stack
+unfolding potential
+potential-most stack tokens = elim (cases_Bool (is_next stack (front tokens))) [
+  | inl y ↦ let e : potential stack tokens ≡ 40 * (length tokens - 1) + weights stack = cond-true _ _ _ y in omega (arith, e)
+  | inr f ↦ let e : potential stack tokens ≡ 40 * length tokens + weights stack = cond-false _ _ _ f in omega (arith, e)
+]
+
+-- a token is read
+pub potential-token : (j t : TokenKind) (stack : List Symbol) (tokens : List TokenKind) → is_kind (Some t) j ≡ true → potential stack tokens < potential (T j ∷ stack) (t ∷ tokens)
+unfolding potential
+potential-token j t stack tokens y =
+    let e : potential (T j ∷ stack) (t ∷ tokens) ≡ 40 * (length (t ∷ tokens) - 1) + (1 + weights stack) = cond-true _ _ _ y in
+    let m : potential stack tokens ≤ 40 * length tokens + weights stack = potential-most stack tokens in omega (arith, e, m)
+
+-- the alternative that is chosen has less weight than its sort, but for a token that is read next
+abbrev pub is_light : Option TokenKind → Sort → Bool
+is_light sight s = nat_lt (weights (choice (alternatives s) sight)) (if is_next (choice (alternatives s) sight) sight then 40 + weight s else weight s)
+
+all_light : (sight : Option TokenKind) → list_all (is_light sight) sorts ≡ true
+all_light None = refl
+all_light (Some k.KwClass) = refl
+all_light (Some k.KwSetup) = refl
+all_light (Some k.KwScript) = refl
+all_light (Some k.KwType) = refl
+all_light (Some k.KwTypeAsk) = refl
+all_light (Some k.KwDef) = refl
+all_light (Some k.KwEnd) = refl
+all_light (Some k.KwIf) = refl
+all_light (Some k.KwThen) = refl
+all_light (Some k.KwElse) = refl
+all_light (Some k.KwWhile) = refl
+all_light (Some k.KwDo) = refl
+all_light (Some k.KwNil) = refl
+all_light (Some k.KwTrue) = refl
+all_light (Some k.KwFalse) = refl
+all_light (Some k.KwSelf) = refl
+all_light (Some k.KwNew) = refl
+all_light (Some k.KwNot) = refl
+all_light (Some k.KwPrint) = refl
+all_light (Some k.KwStr) = refl
+all_light (Some k.TyNil) = refl
+all_light (Some k.TyBool) = refl
+all_light (Some k.TyInt) = refl
+all_light (Some k.TyStr) = refl
+all_light (Some k.TyAny) = refl
+all_light (Some k.OpenParen) = refl
+all_light (Some k.CloseParen) = refl
+all_light (Some k.Comma) = refl
+all_light (Some k.Colon) = refl
+all_light (Some k.Dot) = refl
+all_light (Some k.Assign) = refl
+all_light (Some k.Equals) = refl
+all_light (Some k.Less) = refl
+all_light (Some k.Plus) = refl
+all_light (Some k.Minus) = refl
+all_light (Some k.Times) = refl
+all_light (Some k.Concat) = refl
+all_light (Some k.Arrow) = refl
+all_light (Some k.Name) = refl
+all_light (Some k.ClassName) = refl
+all_light (Some k.Number) = refl
+all_light (Some k.Text) = refl
+all_light (Some k.Separator) = refl
+
+light : (s : Sort) (sight : Option TokenKind) → is_light sight s ≡ true
+light s sight = holds_of (is_light sight) sorts s (all_light sight) (is_sort s)
+
+light-next : (s : Sort) (sight : Option TokenKind) → is_next (choice (alternatives s) sight) sight ≡ true → weights (choice (alternatives s) sight) < 40 + weight s
+light-next s sight y =
+    let e : (if is_next (choice (alternatives s) sight) sight then 40 + weight s else weight s) ≡ 40 + weight s = cond-true _ _ _ y in
+    let h : weights (choice (alternatives s) sight) < (if is_next (choice (alternatives s) sight) sight then 40 + weight s else weight s) = ltb-true _ _ (light s sight) in omega (arith, e, h)
+
+light-other : (s : Sort) (sight : Option TokenKind) → is_next (choice (alternatives s) sight) sight ≡ false → weights (choice (alternatives s) sight) < weight s
+light-other s sight f =
+    let e : (if is_next (choice (alternatives s) sight) sight then 40 + weight s else weight s) ≡ weight s = cond-false _ _ _ f in
+    let h : weights (choice (alternatives s) sight) < (if is_next (choice (alternatives s) sight) sight then 40 + weight s else weight s) = ltb-true _ _ (light s sight) in omega (arith, e, h)
+
+next-some : (stack : List Symbol) (tokens : List TokenKind) → is_next stack (front tokens) ≡ true → 0 < length tokens
+next-some [] tokens y = absurd (both_ways false refl y)
+next-some (N s ∷ stack) tokens y = absurd (both_ways false refl y)
+next-some (T j ∷ stack) [] y = absurd (both_ways false refl y)
+next-some (T j ∷ stack) (t ∷ tokens) y = omega arith
+
+-- the potential of a phrase in front of a stack
+potential-front : (phrase stack : List Symbol) (tokens : List TokenKind) (most : ℕ)
+    → (is_next phrase (front tokens) ≡ true → weights phrase < 40 + most) → (is_next phrase (front tokens) ≡ false → weights phrase < most)
+    → potential (phrase ++ stack) tokens < 40 * length tokens + (most + weights stack)
+unfolding potential
+potential-front [] stack tokens most next other =
+    let m : potential stack tokens ≤ 40 * length tokens + weights stack = potential-most stack tokens in
+    let h : 0 < most = other refl in omega (arith, m, h)
+potential-front (N s ∷ phrase) stack tokens most next other =
+    let h : weight s + weights phrase < most = other refl in
+    let a : weights (phrase ++ stack) ≡ weights phrase + weights stack = weights-append phrase stack in
+    omega (arith, h, a)
+potential-front (T j ∷ phrase) stack tokens most next other =
+    let a : weights (phrase ++ stack) ≡ weights phrase + weights stack = weights-append phrase stack in
+    elim (cases_Bool (is_kind (front tokens) j)) [
+      | inl y ↦
+          let e : potential (T j ∷ (phrase ++ stack)) tokens ≡ 40 * (length tokens - 1) + (1 + weights (phrase ++ stack)) = cond-true _ _ _ y in
+          let h : 1 + weights phrase < 40 + most = next y in
+          let some : 0 < length tokens = next-some (T j ∷ phrase) tokens y in
+          omega (arith, a, e, h, some)
+      | inr f ↦
+          let e : potential (T j ∷ (phrase ++ stack)) tokens ≡ 40 * length tokens + (1 + weights (phrase ++ stack)) = cond-false _ _ _ f in
+          let h : 1 + weights phrase < most = other f in
+          omega (arith, a, e, h)
+    ]
+
+-- a sort is replaced by the alternative that is chosen
+pub potential-phrase : (s : Sort) (stack : List Symbol) (tokens : List TokenKind) → potential (choice (alternatives s) (front tokens) ++ stack) tokens < potential (N s ∷ stack) tokens
+unfolding potential
+potential-phrase s stack tokens = potential-front (choice (alternatives s) (front tokens)) stack tokens (weight s) (light-next s (front tokens)) (light-other s (front tokens))

@@ -1,0 +1,11 @@
+use Rattle.hb_grammar.proofs.OneLemmas.{apart, one-place, one-wanted}
+use Rattle.hb_grammar.proofs.laws.one_answer.Goals as goal
+
+pub returns-clause-apart : goal.returns-clause-apart
+returns-clause-apart c = apart
+
+pub returns-clause-place : goal.returns-clause-place
+returns-clause-place c = one-place
+
+pub returns-clause-wanted : goal.returns-clause-wanted
+returns-clause-wanted c = one-wanted

@@ -1,0 +1,3 @@
+pub mod Grammar
+pub mod Language
+pub mod Sight

@@ -1,0 +1,46 @@
+//! The symbols of the grammar.
+
+use hb_lex::TokenKind;
+
+/// A sort of phrase. One whose name begins with `More` is what may go on behind a phrase.
+#[derive(Clone, Copy, Debug, PartialEq, Eq)]
+pub enum Sort {
+    Program,
+    Classes,
+    Scripts,
+    Block,
+    Items,
+    MoreItems,
+    Expression,
+    AfterName,
+    OtherUnary,
+    Method,
+    MethodName,
+    Signature,
+    Types,
+    MoreTypes,
+    TypeWord,
+    MoreComparison,
+    Sum,
+    MoreSum,
+    Product,
+    MoreProduct,
+    Unary,
+    Postfix,
+    MorePostfix,
+    Arguments,
+    ArgumentList,
+    MoreArguments,
+    Primary,
+    Value,
+    ElsePart,
+    Parameters,
+    MoreParameters,
+}
+
+/// What an alternative is made of: tokens of one kind, and phrases of one sort.
+#[derive(Clone, Copy, Debug, PartialEq, Eq)]
+pub enum Symbol {
+    Token(TokenKind),
+    Phrase(Sort),
+}
