@@ -1,0 +1,9 @@
+pub mod Spelling
+pub mod Table
+pub mod Tree
+pub mod Counts
+pub mod Nodes
+pub mod TreeAt
+pub mod Program
+pub mod Grows
+pub mod Example
