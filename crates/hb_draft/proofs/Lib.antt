@@ -1,0 +1,12 @@
+pub mod WordLists
+pub mod Lists
+pub mod Parts
+pub mod Append
+pub mod Puts
+pub mod Hands
+pub mod Steps
+pub mod Blocks
+pub mod Sites
+pub mod Named
+pub mod Texts
+pub mod Empty

@@ -1,0 +1,286 @@
+-- A definition with its body, and a declaration with its type.
+use Rattle.std.proofs.Common.{◌≡◌, ℕ, ◌<◌, ◌≤◌, List, [], ◌∷◌, ◌++◌, map, take, drop, length, length-append, Some, Bool, refl, sym, ap, ◌∙◌, subst, arith, add-zero, IsSomeAnd, option_map}
+use Rattle.std.specs.Prelude.{slice_get}
+use Rattle.std.specs.List.{AllByRecursion}
+use Rattle.std.proofs.lemmas.List.{append-nil, length-map}
+use Rattle.std.proofs.lemmas.Option.{none-some}
+use Rattle.hb_types.specs.declared.ids.NodeId.{NodeId}
+use Rattle.hb_types.specs.declared.ids.NameId.{NameId}
+use Rattle.hb_types.specs.declared.ids.ClassId.{ClassId}
+use Rattle.hb_types.specs.declared.types.MethodTy.{MethodTy}
+use Rattle.hb_tree.specs.declared.node.Node.{Node}
+use Rattle.hb_tree.specs.declared.node.Node.TheVariants as node
+use Rattle.hb_tree.specs.declared.node.Method.TheVariants as method
+use Rattle.hb_tree.specs.declared.node.Placed.{Placed}
+use Rattle.hb_tree.specs.declared.parts.Body.{Body}
+use Rattle.hb_tree.specs.Table.{Table}
+use Rattle.hb_tree.specs.Tree.{Tree, IsBlock, TDef, TDeclare}
+use Rattle.hb_tree.specs.Nodes.{numbers_of, params_of, block_in, node_at}
+use Rattle.hb_tree.specs.TreeAt.{tree_at}
+use Rattle.hb_tree.specs.Program.{IsBodyIn, IsTypeIn, IsMethodTyIn, IsDefNode, IsDeclareNode}
+use Rattle.hb_tree.proofs.Trees.{id_of-tree_at}
+use Rattle.hb_tree.proofs.Growth.{tree_at-grown}
+use Rattle.hb_draft.specs.Kept.{IsDraft}
+use Rattle.hb_draft.specs.Put.{IsOver, last_nodes}
+use Rattle.hb_draft.specs.Unfinished.{Unfinished, IsBlockPart, HasBlock, IsBodyBlock, AreParams, KeepsRoots, PutsDef, PutsDeclare, in_hand, trees_of}
+use Rattle.hb_draft.proofs.Lists.{slice_get-last, slice_get-single}
+use Rattle.hb_draft.proofs.Append.{appended, appended-grows, founded, same_texts, has_parts, block_part, IsNext, draft-next, hand-next, roots-next}
+use Rattle.hb_draft.proofs.Puts.{hand_after}
+use Rattle.hb_draft.proofs.Hands.{length-hand, next-hand, last_none, last_one}
+use Rattle.hb_draft.proofs.Steps.{placed_at}
+
+has_one : (P : Tree → Type 0) (ts : List Tree) → HasBlock P ts → 1 ≤ length ts
+has_one P [] h = absurd h
+has_one P (t ∷ ts) h = omega arith
+
+module _ (d : Unfinished) (P : Tree → Type 0) (has : HasBlock P (in_hand d)) where
+  pub one_node : 1 ≤ length d.nodes
+  unfolding in_hand
+  one_node = omega (arith, has_one P (in_hand d) has, length-hand d.table d.nodes)
+
+  pub top_hand : (b : NodeId) → last_nodes 1 d.nodes ≡ b ∷ last_nodes 0 d.nodes → in_hand d ≡ tree_at d.table b.0 ∷ drop 1 (in_hand d)
+  unfolding in_hand
+  top_hand b last = next-hand d.table d.nodes 0 b one_node last
+
+  pub top_block : (b : NodeId) → last_nodes 1 d.nodes ≡ b ∷ last_nodes 0 d.nodes → IsBlock (tree_at d.table b.0) × P (tree_at d.table b.0)
+  top_block b last = subst (HasBlock P) (top_hand b last) has
+
+-- the table with a definition more, and its body
+abbrev pub with_body : Table → Body → Placed → Table
+with_body t b p = record t { nodes = t.nodes ++ p ∷ []; bodies = t.bodies ++ b ∷ [] }
+
+-- what a definition asks for
+pub record CanDef (d : Unfinished) (class m : ℕ) (b : Body) (xs : List ℕ) : Type 0 where
+  pub room : length d.table.nodes < 65535
+  pub known_class : class < length d.table.classes
+  pub known_name : m < length d.table.names
+  pub itself : b.def.0 ≡ length d.table.nodes
+  pub places : length b.params ≡ 4
+  pub few : b.count ≤ 4
+  pub named : params_of b ≡ xs
+  pub params : AreParams d.table xs
+  pub has : HasBlock (IsBodyBlock xs) (in_hand d)
+  pub last : last_nodes 1 d.nodes ≡ b.block ∷ last_nodes 0 d.nodes
+
+pub can_def : (d : Unfinished) (class m : ℕ) (params list : List NameId) (id : ℕ) (block : NodeId) → length d.table.nodes < 65535 → class < length d.table.classes → m < length d.table.names
+    → id ≡ length d.table.nodes → take (length params) list ≡ params → length list ≡ 4 → AreParams d.table (map (λ x. x.0) params)
+    → HasBlock (IsBodyBlock (map (λ x. x.0) params)) (in_hand d) → last_nodes 1 d.nodes ≡ block ∷ last_nodes 0 d.nodes
+    → CanDef d class m (record { def = record { 0 = id }; block = block; count = length params; params = list }) (map (λ x. x.0) params)
+can_def d class m params list id block room known_class known_name itself named places known has last = record {
+  room = room;
+  known_class = known_class;
+  known_name = known_name;
+  itself = itself;
+  places = places;
+  few = omega (arith, known.few, length-map params (λ x. x.0));
+  named = ap (map (λ x. x.0)) named;
+  params = known;
+  has = has;
+  last = last;
+}
+
+module _ (t : Table) (ids : List NodeId) (draft : IsDraft t ids) (place : ℕ × ℕ) (class : ClassId) (m : NameId) (b : Body) (xs : List ℕ) (can : CanDef (record { table = t; nodes = ids }) class.0 m.0 b xs) where
+  abbrev n : Node
+  n = node.Def (method.Named class m) (record { 0 = length t.bodies })
+
+  abbrev p : Placed
+  p = placed_at n place
+
+  abbrev u : Table
+  u = appended t t.texts [] (b ∷ []) [] p
+
+  plain : u ≡ with_body t b p
+  plain = rw (append-nil t.items, append-nil t.types) refl
+
+  abbrev old : Unfinished
+  old = record { table = t; nodes = ids }
+
+  at_site : slice_get (t.bodies ++ b ∷ []) (length t.bodies) ≡ Some b
+  at_site = slice_get-last t.bodies b
+
+  at_node : node_at u (length t.nodes) ≡ Some n
+  at_node = ap (option_map (λ q. q.node)) (slice_get-last t.nodes p)
+
+  block : IsBlock (tree_at t b.block.0) × IsBodyBlock xs (tree_at t b.block.0)
+  block = top_block old (IsBodyBlock xs) can.has b.block can.last
+
+  over : IsOver t u ids 1 n
+  over = record {
+    room = can.room;
+    enough = one_node old (IsBodyBlock xs) can.has;
+    places = omega (arith, length-append t.bodies (b ∷ []));
+    parts = ap (λ o. block_in o ∷ []) at_site ∙ sym (ap numbers_of (last_one t ids b.block can.last));
+    exprs = tt;
+    blocks = subst (λ o. AllByRecursion (λ j. IsBlockPart (tree_at t j)) (block_in o ∷ [])) (sym at_site) (record { kind = block.0; low = block.1.low }, tt);
+    known = ((can.known_class, can.known_name), subst (λ o. IsSomeAnd o (λ c. c.def.0 ≡ length t.nodes)) (sym at_site) can.itself);
+  }
+
+  low : b.block.0 < length t.nodes
+  low = subst (λ o. block_in o < length t.nodes) at_site (has_parts t ids t.texts (same_texts t draft.program) [] 1 (b ∷ []) [] p draft over).below.1.0
+
+  same_tree : tree_at u b.block.0 ≡ tree_at t b.block.0
+  same_tree = tree_at-grown t u (appended-grows t ids t.texts (same_texts t draft.program) [] 1 (b ∷ []) [] p) (founded t draft.program) b.block.0 low
+
+  body : IsBodyIn u (length t.bodies) b
+  body = record {
+    named = rw can.itself (subst (IsDefNode (length t.bodies)) (sym at_node) refl);
+    block = block_part t ids t.texts (same_texts t draft.program) [] 1 (b ∷ []) [] p draft over b.block.0 low (record { kind = block.0; low = block.1.low });
+    params = record { places = can.places; few = can.few; known = rw can.named can.params.known; apart = rw can.named can.params.apart };
+    few_nodes = rw same_tree block.1.few_nodes;
+    few_calls = rw same_tree block.1.few_calls;
+    few_variables = rw (can.named, same_tree) block.1.few_variables;
+  }
+
+  next : IsNext t ids t.texts [] 1 (b ∷ []) [] p
+  next = record {
+    over = over;
+    items = tt;
+    few_items = omega arith;
+    bodies = λ k c e. let only = slice_get-single b c k e in rw (only.0, only.1, add-zero) body;
+    few_bodies = omega arith;
+    types = λ k y e. absurd (none-some y e);
+    few_types = omega (arith, draft.program.limits.types);
+  }
+
+  pub def_draft : IsDraft (with_body t b p) (hand_after t ids 1)
+  def_draft = subst (λ (v : Table). IsDraft v (hand_after t ids 1)) plain (draft-next t ids t.texts (same_texts t draft.program) [] 1 (b ∷ []) [] p draft over next)
+
+  pub def_puts : PutsDef old (record { table = with_body t b p; nodes = hand_after t ids 1 }) place class.0 m.0 xs
+  unfolding in_hand
+  def_puts = record {
+    block = tree_at t b.block.0;
+    rest = drop 1 (trees_of t ids);
+    was = top_hand old (IsBodyBlock xs) can.has b.block can.last;
+    hand =
+        subst (λ (v : Table). trees_of v (hand_after t ids 1) ≡ TDef (length t.nodes) class.0 m.0 (length t.bodies) (tree_at t b.block.0) ∷ drop 1 (trees_of t ids)) plain
+        (hand-next t ids t.texts (same_texts t draft.program) [] 1 (b ∷ []) [] p draft over
+        ∙ ap (λ o. TDef (length t.nodes) class.0 m.0 (length t.bodies) (tree_at t (block_in o)) ∷ drop 1 (trees_of t ids)) at_site);
+    texts = refl;
+    body = b;
+    gives = record { def = can.itself; block = sym (id_of-tree_at t b.block.0); params = can.named };
+    table = record {
+      nodes = (n, refl);
+      classes = refl;
+      names = refl;
+      bodies = refl;
+      types = refl;
+      roots = subst (λ (v : Table). KeepsRoots t v) plain (roots-next t ids t.texts (same_texts t draft.program) [] 1 (b ∷ []) [] p draft);
+    };
+  }
+
+-- the same, whatever the draft is called
+module _ (s d : Unfinished) (same : s ≡ d) (draft : IsDraft s.table s.nodes) (place : ℕ × ℕ) (class : ClassId) (m : NameId) (b : Body) (xs : List ℕ) (can : CanDef d class.0 m.0 b xs) where
+  abbrev pub def_node : Placed
+  def_node = placed_at (node.Def (method.Named class m) (record { 0 = length s.table.bodies })) place
+
+  can' : CanDef s class.0 m.0 b xs
+  can' = subst (λ v. CanDef v class.0 m.0 b xs) (sym same) can
+
+  pub def_kept : IsDraft (with_body s.table b def_node) (hand_after s.table s.nodes 1)
+  def_kept = def_draft s.table s.nodes draft place class m b xs can'
+
+  pub def_made : PutsDef d (record { table = with_body s.table b def_node; nodes = hand_after s.table s.nodes 1 }) place class.0 m.0 xs
+  def_made =
+      let new : Unfinished = record { table = with_body s.table b def_node; nodes = hand_after s.table s.nodes 1 } in
+      subst (λ v. PutsDef v new place class.0 m.0 xs) same (def_puts s.table s.nodes draft place class m b xs can')
+
+-- the table with a declaration more, and its type
+abbrev pub with_type : Table → MethodTy × NodeId → Placed → Table
+with_type t y p = record t { nodes = t.nodes ++ p ∷ []; types = t.types ++ y ∷ [] }
+
+-- what a declaration asks for
+pub record CanDeclare (d : Unfinished) (class m : ℕ) (ty : MethodTy) : Type 0 where
+  pub room : length d.table.nodes < 65535
+  pub known_class : class < length d.table.classes
+  pub known_name : m < length d.table.names
+  pub known_ty : IsMethodTyIn d.table ty
+  pub few : length d.table.types < 65534
+
+module _ (t : Table) (ids : List NodeId) (draft : IsDraft t ids) (place : ℕ × ℕ) (class : ClassId) (m : NameId) (ty : MethodTy) (asks : Bool) (can : CanDeclare (record { table = t; nodes = ids }) class.0 m.0 ty) where
+  abbrev dn : Node
+  dn = node.Declare (method.Named class m) (record { 0 = length t.types }) asks
+
+  abbrev dp : Placed
+  dp = placed_at dn place
+
+  abbrev y : MethodTy × NodeId
+  y = (ty, record { 0 = length t.nodes })
+
+  abbrev du : Table
+  du = appended t t.texts [] [] (y ∷ []) dp
+
+  type_plain : du ≡ with_type t y dp
+  type_plain = rw (append-nil t.items, append-nil t.bodies) refl
+
+  type_site : slice_get (t.types ++ y ∷ []) (length t.types) ≡ Some y
+  type_site = slice_get-last t.types y
+
+  type_node : node_at du (length t.nodes) ≡ Some dn
+  type_node = ap (option_map (λ q. q.node)) (slice_get-last t.nodes dp)
+
+  type_over : IsOver t du ids 0 dn
+  type_over = record {
+    room = can.room;
+    enough = omega arith;
+    places = tt;
+    parts = sym (ap numbers_of (last_none t ids));
+    exprs = tt;
+    blocks = tt;
+    known = ((can.known_class, can.known_name), subst (λ o. IsSomeAnd o (λ z. z.1.0 ≡ length t.nodes)) (sym type_site) refl);
+  }
+
+  type_in : IsTypeIn du (length t.types) y
+  type_in = record {
+    named = subst (IsDeclareNode (length t.types)) (sym type_node) refl;
+    known = record { form = can.known_ty.form; params = can.known_ty.params; result = can.known_ty.result };
+  }
+
+  type_next : IsNext t ids t.texts [] 0 [] (y ∷ []) dp
+  type_next = record {
+    over = type_over;
+    items = tt;
+    few_items = omega arith;
+    bodies = λ k c e. absurd (none-some c e);
+    few_bodies = omega arith;
+    types = λ k z e. let only = slice_get-single y z k e in rw (only.0, only.1, add-zero) type_in;
+    few_types = omega (arith, can.few);
+  }
+
+  pub declare_draft : IsDraft (with_type t y dp) (hand_after t ids 0)
+  declare_draft = subst (λ (v : Table). IsDraft v (hand_after t ids 0)) type_plain (draft-next t ids t.texts (same_texts t draft.program) [] 0 [] (y ∷ []) dp draft type_over type_next)
+
+  pub declare_puts : PutsDeclare (record { table = t; nodes = ids }) (record { table = with_type t y dp; nodes = hand_after t ids 0 }) place class.0 m.0 ty asks
+  unfolding in_hand
+  declare_puts = record {
+    hand =
+        subst (λ (v : Table). trees_of v (hand_after t ids 0) ≡ TDeclare (length t.nodes) class.0 m.0 (length t.types) asks ∷ trees_of t ids) type_plain
+        (hand-next t ids t.texts (same_texts t draft.program) [] 0 [] (y ∷ []) dp draft type_over);
+    texts = refl;
+    table = record {
+      nodes = (dn, refl);
+      classes = refl;
+      names = refl;
+      bodies = refl;
+      types = refl;
+      roots = subst (λ (v : Table). KeepsRoots t v) type_plain (roots-next t ids t.texts (same_texts t draft.program) [] 0 [] (y ∷ []) dp draft);
+    };
+  }
+
+-- the same, whatever the draft is called
+module _ (s d : Unfinished) (same : s ≡ d) (draft : IsDraft s.table s.nodes) (place : ℕ × ℕ) (class : ClassId) (m : NameId) (ty : MethodTy) (asks : Bool) (can : CanDeclare d class.0 m.0 ty) where
+  abbrev pub declare_node : Placed
+  declare_node = placed_at (node.Declare (method.Named class m) (record { 0 = length s.table.types }) asks) place
+
+  abbrev pub declared : MethodTy × NodeId
+  declared = (ty, record { 0 = length s.table.nodes })
+
+  can_declare : CanDeclare s class.0 m.0 ty
+  can_declare = subst (λ v. CanDeclare v class.0 m.0 ty) (sym same) can
+
+  pub declare_kept : IsDraft (with_type s.table declared declare_node) (hand_after s.table s.nodes 0)
+  declare_kept = declare_draft s.table s.nodes draft place class m ty asks can_declare
+
+  pub declare_made : PutsDeclare d (record { table = with_type s.table declared declare_node; nodes = hand_after s.table s.nodes 0 }) place class.0 m.0 ty asks
+  declare_made =
+      let new : Unfinished = record { table = with_type s.table declared declare_node; nodes = hand_after s.table s.nodes 0 } in
+      subst (λ v. PutsDeclare v new place class.0 m.0 ty asks) same (declare_puts s.table s.nodes draft place class m ty asks can_declare)

@@ -1,0 +1,24 @@
+use Rattle.std.proofs.Common.{◌≡◌, length, arith}
+use Rattle.hb_draft.proofs.Blocks.{block_enough, block_kept, block_made}
+use Rattle.hb_draft.proofs.draft.Draft.block.Goals as goal
+
+pub last_of-requires : goal.last_of-requires
+last_of-requires c = rw c.deref.ensures.value (block_enough _ _ c.self.view_is c.self.invariant c.args.count c.args.place c.requires.room c.requires.parts)
+
+pub overflow_cast-node-2 : goal.overflow_cast-node-2
+overflow_cast-node-2 c = omega (arith, c.self.invariant.few_items, c.self.invariant.program.limits.nodes, block_enough _ _ c.self.view_is c.self.invariant c.args.count c.args.place c.requires.room c.requires.parts)
+
+pub push_node-requires-clause-count : goal.push_node-requires-clause-count
+push_node-requires-clause-count c = block_enough _ _ c.self.view_is c.self.invariant c.args.count c.args.place c.requires.room c.requires.parts
+
+pub invariant_of-self-in-Ok : goal.invariant_of-self-in-Ok
+invariant_of-self-in-Ok c =
+    let first : c.len-first.result ≡ length c.self.inside.items.items = omega (arith, c.len-first.ensures, c.self.inside.items.ok) in
+    rw (c.in-Ok.ensures.nodes, c.in-Ok.ensures.hand, c.in_ok-extend_from_slice.ensures.items, c.last_of.ensures, c.deref.ensures.value, c.placed.ensures, first)
+    (block_kept _ _ c.self.view_is c.self.invariant c.args.count c.args.place c.requires.room c.requires.parts)
+
+pub returns-in-Ok : goal.returns-in-Ok
+returns-in-Ok c =
+    let first : c.len-first.result ≡ length c.self.inside.items.items = omega (arith, c.len-first.ensures, c.self.inside.items.ok) in
+    rw (c.in-Ok.ensures.nodes, c.in-Ok.ensures.hand, c.in_ok-extend_from_slice.ensures.items, c.last_of.ensures, c.deref.ensures.value, c.placed.ensures, first)
+    (block_made _ _ c.self.view_is c.self.invariant c.args.count c.args.place c.requires.room c.requires.parts)

@@ -1,0 +1,8 @@
+use Rattle.hb_draft.proofs.Puts.{put_kept, put_puts}
+use Rattle.hb_draft.proofs.draft.Draft.put.Goals as goal
+
+pub invariant_of-self-2 : goal.invariant_of-self-2
+invariant_of-self-2 c = rw (c.in_ok-push_node.ensures.nodes, c.in_ok-push_node.ensures.hand) (put_kept _ _ c.self.view_is c.self.invariant c.args.node c.args.count c.requires)
+
+pub returns : goal.returns
+returns c = rw (c.in_ok-push_node.ensures.nodes, c.in_ok-push_node.ensures.hand) (put_puts _ _ c.self.view_is c.self.invariant c.args.node c.args.count c.requires)

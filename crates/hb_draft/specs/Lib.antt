@@ -1,0 +1,4 @@
+pub mod Words
+pub mod Unfinished
+pub mod Kept
+pub mod Put

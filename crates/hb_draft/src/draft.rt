@@ -1,0 +1,457 @@
+//! The program under construction.
+
+ghost use Rattle.std.specs.Prelude.{◌≡◌, false, pos, ◌≤ℤ◌, ◌+◌, ◌-◌, ◌<◌, ◌≤◌, ◌^◌, [], ◌∷◌, ◌++◌, None, reverse, OnErr, List, length, map, slice_get, position, Some, bytes_eq, option_map, IfOk, OnOk, take};
+ghost use Rattle.std.specs.List.{list_any};
+ghost use Rattle.hb_tree.specs.Tree.{TNil, TTrue, TFalse, TSelf, TInt, TVar, TNew, TAssign, TPrint, TToStr, TNot};
+ghost use Rattle.hb_tree.specs.Spelling.{IsClassName, IsName, IsText};
+ghost use Rattle.hb_tree.specs.Program.{IsMethodTyIn};
+
+use crate::pieces::{arg_list, last_of, param_list, placed, push_node};
+use crate::words::Words;
+use hb_tree::limits::{ARGUMENTS_MAX, CLASSES_MAX, NODES_MAX, SCRIPTS_MAX, TYPES_MAX};
+use hb_tree::node::{Method, Node, Op, Placed};
+use hb_tree::parts::{Body, ProgramParts};
+use hb_tree::program::Program;
+use hb_types::ids::{BodySite, ClassId, NameId, NodeId, TextId, TypeSite};
+use hb_types::types::MethodTy;
+use std::alloc::{AllocError, Global};
+use std::marker::Model;
+
+/// The lists of a program so far, and the trees in hand: those that are parts of none yet.
+///
+/// A tree is built from its parts: a call takes them from the hand, the last one first, and puts
+/// the tree that it makes of them there in their stead. Contracts see the lists and the trees; the
+/// numbers of nodes stay inside. A place is a line and a column, both from 1, the column in bytes.
+///
+/// Want of memory is the only error. The draft can then be dropped, and no more is said of it.
+#[derive(Drop)]
+pub struct Draft {
+    alloc: Global,
+    classes: Words,
+    names: Words,
+    texts: Words,
+    nodes: Vec<Placed>,
+    items: Vec<NodeId>,
+    bodies: Vec<Body>,
+    types: Vec<(MethodTy, NodeId)>,
+    setup: Option<NodeId>,
+    scripts: Vec<(NameId, NodeId)>,
+    hand: Vec<NodeId>,
+}
+
+impl Model for Draft {
+    ghost use Rattle.hb_draft.specs.Unfinished.{Unfinished};
+
+    ghost Value = { Unfinished };
+
+    ghost use Rattle.hb_draft.specs.Kept.{IsDraft};
+
+    ghost view = { λ d. record { table = record { classes = d.classes; names = d.names; texts = d.texts; nodes = d.nodes.items; items = d.items.items; bodies = d.bodies.items; types = d.types.items; setup = d.setup; scripts = d.scripts.items }; nodes = d.hand.items } };
+
+    ghost invariant = { λ d. IsDraft (record { classes = d.classes; names = d.names; texts = d.texts; nodes = d.nodes.items; items = d.items.items; bodies = d.bodies.items; types = d.types.items; setup = d.setup; scripts = d.scripts.items }) d.hand.items };
+}
+
+impl Draft {
+    ghost use Rattle.hb_draft.specs.Put.{CanPut, PutsNode, last_nodes};
+    ghost use Rattle.hb_draft.specs.Unfinished.{in_hand, AddsClass, AddsName, HasExprs, HasBlock, IsBodyBlock, IsRootBlock, AreParams, Puts, PutsText, PutsDef, PutsDeclare, AddsSetup, AddsScript, HasTurn, HasBranches, leaf_over, unary_over, binary_over, if_over, while_over, call_over, block_over};
+
+    /// Nothing is declared yet, and nothing is in hand.
+    pub fn new(alloc: Global) -> Draft
+        ensures table { result.table ≡ record { classes = []; names = []; texts = []; nodes = []; items = []; bodies = []; types = []; setup = None; scripts = [] } }
+        ensures hand { in_hand result ≡ [] }
+    {
+        Draft {
+            alloc,
+            classes: Words::new(alloc),
+            names: Words::new(alloc),
+            texts: Words::new(alloc),
+            nodes: Vec::new(alloc),
+            items: Vec::new(alloc),
+            bodies: Vec::new(alloc),
+            types: Vec::new(alloc),
+            setup: None,
+            scripts: Vec::new(alloc),
+            hand: Vec::new(alloc),
+        }
+    }
+
+    /// The class with this name, if it is declared.
+    pub fn find_class(&self, name: &[u8]) -> Option<ClassId>
+        ensures { option_map (λ c. c.0) result ≡ position (bytes_eq name.now) self.now.table.classes }
+    {
+        let i = self.classes.find(name)?;
+        Some(ClassId(i as u16))
+    }
+
+    /// Declares one more class.
+    pub fn class(&mut self, name: &[u8]) -> Result<ClassId, AllocError>
+        requires word { IsClassName name.now }
+        requires fresh { list_any (bytes_eq name.now) self.old.table.classes ≡ false }
+        requires room { length self.old.table.classes < CLASSES_MAX }
+        ensures class { OnOk result (AddsClass self.old self.new name.now) }
+        ensures number { IfOk result (λ c. c.0 ≡ length self.old.table.classes) }
+    {
+        let i = self.classes.number(name)?;
+        Ok(ClassId(i as u16))
+    }
+
+    /// The number of a name, which is a new one where the name did not occur before.
+    pub fn name(&mut self, name: &[u8]) -> Result<NameId, AllocError>
+        requires word { IsName name.now }
+        requires room { length self.old.table.names + 1 < 2 ^ 32 }
+        ensures name { OnOk result (AddsName self.old self.new name.now) }
+        ensures number { IfOk result (λ x. slice_get self.new.table.names x.0 ≡ Some name.now) }
+    {
+        let i = self.names.number(name)?;
+        Ok(NameId(i as u32))
+    }
+
+    /// How many classes are declared.
+    pub fn classes(&self) -> usize
+        ensures { result ≡ length self.now.table.classes }
+    {
+        self.classes.len()
+    }
+
+    /// How many names occurred.
+    pub fn names(&self) -> usize
+        ensures { result ≡ length self.now.table.names }
+    {
+        self.names.len()
+    }
+
+    /// How many nodes there are.
+    pub fn nodes(&self) -> usize
+        ensures { result ≡ length self.now.table.nodes }
+    {
+        self.nodes.len()
+    }
+
+    /// How many types are declared.
+    pub fn types(&self) -> usize
+        ensures { result ≡ length self.now.table.types }
+    {
+        self.types.len()
+    }
+
+    /// How many scripts there are.
+    pub fn scripts(&self) -> usize
+        ensures { result ≡ length self.now.table.scripts }
+    {
+        self.scripts.len()
+    }
+
+    /// `nil`.
+    pub fn nil(&mut self, place: (u32, u32)) -> Result<(), AllocError>
+        requires room { length self.old.table.nodes < NODES_MAX }
+        ensures { OnOk result (Puts self.old self.new place (leaf_over TNil)) }
+    {
+        self.put(placed(Node::Nil, place), 0)
+    }
+
+    /// `true`.
+    pub fn yes(&mut self, place: (u32, u32)) -> Result<(), AllocError>
+        requires room { length self.old.table.nodes < NODES_MAX }
+        ensures { OnOk result (Puts self.old self.new place (leaf_over TTrue)) }
+    {
+        self.put(placed(Node::True, place), 0)
+    }
+
+    /// `false`.
+    pub fn no(&mut self, place: (u32, u32)) -> Result<(), AllocError>
+        requires room { length self.old.table.nodes < NODES_MAX }
+        ensures { OnOk result (Puts self.old self.new place (leaf_over TFalse)) }
+    {
+        self.put(placed(Node::False, place), 0)
+    }
+
+    /// `self`.
+    pub fn self_ref(&mut self, place: (u32, u32)) -> Result<(), AllocError>
+        requires room { length self.old.table.nodes < NODES_MAX }
+        ensures { OnOk result (Puts self.old self.new place (leaf_over TSelf)) }
+    {
+        self.put(placed(Node::SelfRef, place), 0)
+    }
+
+    /// A number.
+    pub fn int(&mut self, value: i64, place: (u32, u32)) -> Result<(), AllocError>
+        requires value { pos 0 ≤ℤ value }
+        requires room { length self.old.table.nodes < NODES_MAX }
+        ensures { OnOk result (Puts self.old self.new place (leaf_over (λ id. TInt id value))) }
+    {
+        self.put(placed(Node::Int(value), place), 0)
+    }
+
+    /// A text with this value.
+    pub fn text(&mut self, value: &[u8], place: (u32, u32)) -> Result<(), AllocError>
+        requires value { IsText value.now }
+        requires room { length self.old.table.nodes < NODES_MAX }
+        ensures { OnOk result (PutsText self.old self.new place value.now) }
+    {
+        let count = self.texts.len();
+        let i = self.texts.number(value)?;
+        let node = Node::Text(TextId(i as u16));
+        match push_node(&mut self.nodes, &mut self.hand, placed(node, place), 0) {
+            Ok(()) => Ok(()),
+            Err(full) => {
+                self.texts.truncate(count);
+                Err(full)
+            }
+        }
+    }
+
+    /// A variable.
+    pub fn var(&mut self, name: NameId, place: (u32, u32)) -> Result<(), AllocError>
+        requires name { name.0 < length self.old.table.names }
+        requires room { length self.old.table.nodes < NODES_MAX }
+        ensures { OnOk result (Puts self.old self.new place (leaf_over (λ id. TVar id name.0))) }
+    {
+        self.put(placed(Node::Var(name), place), 0)
+    }
+
+    /// A new object of a class.
+    pub fn new_object(&mut self, class: ClassId, place: (u32, u32)) -> Result<(), AllocError>
+        requires class { class.0 < length self.old.table.classes }
+        requires room { length self.old.table.nodes < NODES_MAX }
+        ensures { OnOk result (Puts self.old self.new place (leaf_over (λ id. TNew id class.0))) }
+    {
+        self.put(placed(Node::New(class), place), 0)
+    }
+
+    /// The printing of the last one in hand.
+    pub fn print(&mut self, place: (u32, u32)) -> Result<(), AllocError>
+        requires parts { HasExprs 1 (in_hand self.old) }
+        requires room { length self.old.table.nodes < NODES_MAX }
+        ensures { OnOk result (Puts self.old self.new place (unary_over TPrint)) }
+    {
+        let e = self.on_top(0);
+        self.put(placed(Node::Print(e), place), 1)
+    }
+
+    /// The text of the last one in hand.
+    pub fn to_str(&mut self, place: (u32, u32)) -> Result<(), AllocError>
+        requires parts { HasExprs 1 (in_hand self.old) }
+        requires room { length self.old.table.nodes < NODES_MAX }
+        ensures { OnOk result (Puts self.old self.new place (unary_over TToStr)) }
+    {
+        let e = self.on_top(0);
+        self.put(placed(Node::ToStr(e), place), 1)
+    }
+
+    /// The negation of the last one in hand.
+    pub fn not(&mut self, place: (u32, u32)) -> Result<(), AllocError>
+        requires parts { HasExprs 1 (in_hand self.old) }
+        requires room { length self.old.table.nodes < NODES_MAX }
+        ensures { OnOk result (Puts self.old self.new place (unary_over TNot)) }
+    {
+        let e = self.on_top(0);
+        self.put(placed(Node::Not(e), place), 1)
+    }
+
+    /// An assignment of the last one in hand to a variable.
+    pub fn assign(&mut self, name: NameId, place: (u32, u32)) -> Result<(), AllocError>
+        requires parts { HasExprs 1 (in_hand self.old) }
+        requires name { name.0 < length self.old.table.names }
+        requires room { length self.old.table.nodes < NODES_MAX }
+        ensures { OnOk result (Puts self.old self.new place (unary_over (λ id e. TAssign id name.0 e))) }
+    {
+        let e = self.on_top(0);
+        self.put(placed(Node::Assign(name, e), place), 1)
+    }
+
+    /// A choice by the condition that lies below the last two in hand, its two blocks.
+    pub fn choice(&mut self, place: (u32, u32)) -> Result<(), AllocError>
+        requires parts { HasBranches (in_hand self.old) }
+        requires room { length self.old.table.nodes < NODES_MAX }
+        ensures { OnOk result (Puts self.old self.new place if_over) }
+    {
+        let (condition, then, other) = (self.on_top(2), self.on_top(1), self.on_top(0));
+        self.put(placed(Node::If(condition, then, other), place), 3)
+    }
+
+    /// A loop over the last one in hand, a block, by the condition below it.
+    pub fn repeat(&mut self, place: (u32, u32)) -> Result<(), AllocError>
+        requires parts { HasTurn (in_hand self.old) }
+        requires room { length self.old.table.nodes < NODES_MAX }
+        ensures { OnOk result (Puts self.old self.new place while_over) }
+    {
+        let (condition, block) = (self.on_top(1), self.on_top(0));
+        self.put(placed(Node::While(condition, block), place), 2)
+    }
+
+    /// An operation on the last two in hand.
+    pub fn binary(&mut self, op: Op, place: (u32, u32)) -> Result<(), AllocError>
+        requires parts { HasExprs 2 (in_hand self.old) }
+        requires room { length self.old.table.nodes < NODES_MAX }
+        ensures { OnOk result (Puts self.old self.new place (binary_over op)) }
+    {
+        let (a, b) = (self.on_top(1), self.on_top(0));
+        self.put(placed(Node::Binary(op, a, b), place), 2)
+    }
+
+    /// A call with the last `count` in hand as its arguments. The receiver lies below them.
+    pub fn call(&mut self, name: NameId, count: usize, place: (u32, u32)) -> Result<(), AllocError>
+        requires few { count ≤ ARGUMENTS_MAX }
+        requires parts { HasExprs (count + 1) (in_hand self.old) }
+        requires name { name.0 < length self.old.table.names }
+        requires room { length self.old.table.nodes < NODES_MAX }
+        ensures { OnOk result (Puts self.old self.new place (call_over name.0 count)) }
+    {
+        let receiver = self.on_top(count);
+        let args = arg_list(receiver, last_of(&self.hand, count));
+        self.put(placed(Node::Call(receiver, name, args), place), count + 1)
+    }
+
+    /// A block of the last `count` in hand.
+    pub fn block(&mut self, count: usize, place: (u32, u32)) -> Result<(), AllocError>
+        requires parts { HasExprs count (in_hand self.old) }
+        requires room { length self.old.table.nodes < NODES_MAX }
+        ensures { OnOk result (Puts self.old self.new place (block_over count)) }
+    {
+        let first = self.items.len();
+        self.items.extend_from_slice(last_of(&self.hand, count))?;
+        let node = Node::Block(first as u32, count as u32);
+        match push_node(&mut self.nodes, &mut self.hand, placed(node, place), count) {
+            Ok(()) => Ok(()),
+            Err(full) => {
+                self.items.truncate(first);
+                Err(full)
+            }
+        }
+    }
+
+    /// A definition of the method `name`, whose body is the block that is the last one in hand.
+    pub fn def(
+        &mut self,
+        class: ClassId,
+        name: NameId,
+        params: &[NameId],
+        place: (u32, u32),
+    ) -> Result<(), AllocError>
+        requires class { class.0 < length self.old.table.classes }
+        requires name { name.0 < length self.old.table.names }
+        requires params { AreParams self.old.table (map (λ x. x.0) params.now) }
+        requires block { HasBlock (IsBodyBlock (map (λ x. x.0) params.now)) (in_hand self.old) }
+        requires room { length self.old.table.nodes < NODES_MAX }
+        ensures { OnOk result (PutsDef self.old self.new place class.0 name.0 (map (λ x. x.0) params.now)) }
+    {
+        let block = self.on_top(0);
+        let site = self.bodies.len();
+        let node = Node::Def(Method::Named(class, name), BodySite(site as u16));
+        let body = Body {
+            def: NodeId(self.nodes.len() as u16),
+            block,
+            count: params.len() as u8,
+            params: param_list(params),
+        };
+        self.bodies.push(body)?;
+        match push_node(&mut self.nodes, &mut self.hand, placed(node, place), 1) {
+            Ok(()) => Ok(()),
+            Err(full) => {
+                self.bodies.truncate(site);
+                Err(full)
+            }
+        }
+    }
+
+    /// A declaration of the type of the method `name`, by `type?` where it asks.
+    pub fn declare(
+        &mut self,
+        class: ClassId,
+        name: NameId,
+        ty: MethodTy,
+        asks: bool,
+        place: (u32, u32),
+    ) -> Result<(), AllocError>
+        requires class { class.0 < length self.old.table.classes }
+        requires name { name.0 < length self.old.table.names }
+        requires ty { IsMethodTyIn self.old.table ty }
+        requires types { length self.old.table.types < TYPES_MAX }
+        requires room { length self.old.table.nodes < NODES_MAX }
+        ensures { OnOk result (PutsDeclare self.old self.new place class.0 name.0 ty asks) }
+    {
+        let site = self.types.len();
+        let node = Node::Declare(Method::Named(class, name), TypeSite(site as u16), asks);
+        self.types.push((ty, NodeId(self.nodes.len() as u16)))?;
+        match push_node(&mut self.nodes, &mut self.hand, placed(node, place), 0) {
+            Ok(()) => Ok(()),
+            Err(full) => {
+                self.types.truncate(site);
+                Err(full)
+            }
+        }
+    }
+
+    /// The setup, whose block is the last one in hand. It takes the place of an earlier one.
+    pub fn setup(&mut self)
+        requires { HasBlock IsRootBlock (in_hand self.old) }
+        ensures { AddsSetup self.old self.new }
+    {
+        let block = self.on_top(0);
+        self.setup = Some(block);
+        self.hand.truncate(self.hand.len() - 1);
+    }
+
+    /// A script, whose block is the last one in hand.
+    pub fn script(&mut self, name: NameId) -> Result<(), AllocError>
+        requires name { name.0 < length self.old.table.names }
+        requires block { HasBlock IsRootBlock (in_hand self.old) }
+        requires room { length self.old.table.scripts < SCRIPTS_MAX }
+        ensures { OnOk result (AddsScript self.old self.new name.0) }
+    {
+        let block = self.on_top(0);
+        self.scripts.push((name, block))?;
+        self.hand.truncate(self.hand.len() - 1);
+        Ok(())
+    }
+
+    /// The program of the lists. What is still in hand stays a part of none.
+    pub fn finish(self) -> Result<Program, AllocError>
+        ensures { IfOk result (λ p. p ≡ self.table) }
+    {
+        let Draft {
+            alloc,
+            classes,
+            names,
+            texts,
+            nodes,
+            items,
+            bodies,
+            types,
+            setup,
+            scripts,
+            hand,
+        } = self;
+        Ok(Program::make(ProgramParts {
+            classes: classes.into_vec()?,
+            names: names.into_vec()?,
+            texts: texts.into_vec()?,
+            nodes,
+            items,
+            bodies,
+            types,
+            setup,
+            scripts,
+        }))
+    }
+
+    // The node that lies below `depth` others in hand.
+    fn on_top(&self, depth: usize) -> NodeId
+        requires { depth < length self.now.nodes }
+        ensures { last_nodes (depth + 1) self.now.nodes ≡ result ∷ last_nodes depth self.now.nodes }
+    {
+        self.hand[self.hand.len() - 1 - depth]
+    }
+
+    // The next node, in place of the last `count` in hand, which are its parts.
+    fn put(&mut self, node: Placed, count: usize) -> Result<(), AllocError>
+        requires { CanPut self.old node count }
+        ensures { OnOk result (PutsNode self.old self.new node count) }
+    {
+        push_node(&mut self.nodes, &mut self.hand, node, count)?;
+        Ok(())
+    }
+}
+
+#[cfg(test)]
+mod tests;

@@ -1,0 +1,8 @@
+//! A program under construction: its tables so far, and the trees that are no parts yet.
+#![tactic(auto)]
+
+mod draft;
+mod pieces;
+mod words;
+
+pub use draft::Draft;
