@@ -1,0 +1,14 @@
+pub mod DefinedLemmas
+pub mod LineLemmas
+pub mod ListLemmas
+pub mod EachLemmas
+pub mod WordLemmas
+pub mod ListedLemmas
+pub mod ItemLemmas
+pub mod UniqueLemmas
+pub mod TextLemmas
+pub mod ExtendLemmas
+pub mod PutLemmas
+pub mod SpellingLemmas
+pub mod CallLemmas
+pub mod BuildLemmas
