@@ -1,0 +1,11 @@
+pub mod Rows
+pub mod RunLemmas
+pub mod TypeLemmas
+pub mod WalkLemmas
+pub mod NameLemmas
+pub mod SaidLemmas
+pub mod KnownLemmas
+pub mod SaysLemmas
+pub mod StepLemmas
+pub mod CallLemmas
+pub mod OneDueLemmas

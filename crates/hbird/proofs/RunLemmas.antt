@@ -1,0 +1,124 @@
+-- What reading a text to its end says of what is due.
+use Rattle.std.proofs.Common.{◌≡◌, ◌≢◌, ◌∙◌, ◌≤◌, ◌<◌, ◌+◌, ◌⊎◌, inl, inr, ℕ, List, [], ◌∷◌, ◌++◌, Some, None, Ok, Err, refl, sym, ap, subst, length, length-append, arith, append-nil, rules}
+use Rattle.std.specs.Prelude.{IfOk, IsNone}
+use Rattle.std.specs.Io.KnownBytes.{Keeps}
+use Rattle.std.specs.declared.option.Option.{Option}
+use Rattle.std.specs.declared.result.Result.{Result}
+use Rattle.hb_io.specs.Moves.{TakesAll, TakesCount}
+use Rattle.hb_tree.specs.Table.{Table}
+use Rattle.hb_parse.specs.Items.{Item, Typed, Defined, Printed, Place}
+use Rattle.hb_parse.specs.First.{IsFirst}
+use Rattle.hb_parse.specs.Held.{Holds}
+use Rattle.hbird.specs.Answers.{Answers, CameTo, Ends, IsDueFor, IsNotYet, IsReported, IsRunOf, IsRunOutcome, Reads}
+use Rattle.hbird.specs.Outcomes.{IsDue, Outcome, not_yet, status_of, too_long}
+use Rattle.hbird.specs.Report.{Report, Run, after_call, report, report_from, start, script_line}
+use Rattle.hbird.specs.Verdict.{given}
+use Rattle.hbird.specs.declared.due.Due.{Due}
+use Rattle.hbird.specs.declared.due.Ending.{Ending}
+use Rattle.hbird.specs.declared.jobs.Job.{Job}
+use Rattle.hbird.specs.declared.jobs.Job.TheVariants as jobs
+use Rattle.hbird.specs.declared.due.Ending.TheVariants.{Done, Stopped, TextRefused, WordsRefused}
+use Rattle.hbird.specs.declared.top.TheConstants.{LIMIT}
+
+-- a report never ends as refused words do
+after_call-no_refusal : (run : Run) (place : Place) (value : Option (List ℕ)) (go_on : Run → Report)
+    → ((next : Run) → (go_on next).ending ≢ WordsRefused) → (after_call run place value go_on).ending ≢ WordsRefused
+after_call-no_refusal run place None go_on h = λ e. cc
+after_call-no_refusal run place (Some value) go_on h = h _
+
+report_from-no_refusal : (run : Run) (items : List Item) → (report_from run items).ending ≢ WordsRefused
+report_from-no_refusal run [] = λ e. cc
+report_from-no_refusal run (Typed name params result ∷ items) = report_from-no_refusal _ items
+report_from-no_refusal run (Defined name params parts ∷ items) = report_from-no_refusal _ items
+report_from-no_refusal run (Printed name args place ∷ items) =
+    after_call-no_refusal run place (given run.types run.defs name args) (λ next. report_from next items)
+    (λ next. report_from-no_refusal next items)
+
+due-no_refusal : (text : List ℕ) (o : Outcome) → IsReported text o ⊎ IsNotYet text o → o.ending ≢ WordsRefused
+due-no_refusal text o (inl h) = λ e. report_from-no_refusal (start (script_line h.script)) h.items (sym h.ending ∙ e)
+due-no_refusal text o (inr h) = λ e. let same : o.ending ≡ TextRefused = ap (λ (x : Outcome). x.ending) h.same in cc
+
+pub run-all : (a b : Option (List ℕ)) (text : List ℕ) (o : Outcome) → TakesAll a b LIMIT text
+    → IsReported text o ⊎ IsNotYet text o → IsRunOutcome a o
+run-all None b text o h due = due-no_refusal text o due
+run-all (Some x) None text o h due = absurd h.taken
+run-all (Some x) (Some y) text o h due =
+    let same : x ≡ text = h.taken ∙ ap (λ rest. text ++ rest) h.end ∙ append-nil text in
+    subst (λ t. IsRunOf t o) (sym same) (inr (h.within, due))
+
+-- what is due for a text within the limit is due for the source that it was read from
+pub run-within : {E : Type 0} (a b : Option (List ℕ)) (text kept : List ℕ) (r : Result Due E) → text ≡ kept → TakesAll a b LIMIT kept
+    → IfOk r (λ due. (o : Outcome) × (IsReported text o ⊎ IsNotYet text o) × IsDue due o.ending o.text × (o.takes ≡ length text))
+    → IfOk r (λ due. (o : Outcome) × IsRunOutcome a o × IsDue due o.ending o.text × TakesCount a b o.takes)
+run-within a b text kept (Err e) same h is = tt
+run-within a b text kept (Ok due) same h (o, of, is, takes) =
+    let all : TakesAll a b LIMIT text = subst (TakesAll a b LIMIT) (sym same) h in
+    (o, run-all a b text o all of, is, (text, all.taken, sym takes))
+
+pub run-past : (a b : Option (List ℕ)) → TakesCount a b (LIMIT + 1) → IsRunOutcome a (too_long LIMIT)
+run-past None b h = λ e. cc
+run-past (Some x) None (bytes, taken, size) = absurd taken
+run-past (Some x) (Some y) (bytes, taken, size) =
+    let long : length x ≡ length bytes + length y = ap length taken ∙ length-append bytes y in
+    inl (omega (arith, long, size), refl)
+
+pub text-first : (text : List ℕ) (t : Table) (due : Due)
+    → ((class script : List ℕ) × (items : List Item) × IsFirst text class script items × Holds t script items)
+    → ((script : List ℕ) (items : List Item) → Holds t script items → IsDue due (report script items).ending (report script items).text)
+    → (o : Outcome) × (IsReported text o ⊎ IsNotYet text o) × IsDue due o.ending o.text × (o.takes ≡ length text)
+text-first text t due (class, script, items, first, holds) is =
+    let o : Outcome = record { ending = (report script items).ending; text = (report script items).text; takes = length text } in (
+      o,
+      inl (record { class = class; script = script; items = items; first = first; ending = refl; lines = refl; takes = refl }),
+      is script items holds,
+      refl,
+    )
+
+pub text-other : (text : List ℕ) (due : Due)
+    → ((class script : List ℕ) → (items : List Item) → IsFirst text class script items → ⊥)
+    → IsDue due TextRefused (not_yet (length text)).text
+    → (o : Outcome) × (IsReported text o ⊎ IsNotYet text o) × IsDue due o.ending o.text × (o.takes ≡ length text)
+text-other text due other is = (not_yet (length text), inr (record { other = other; same = refl }), is, refl)
+
+-- what is due for a job is never that of refused words
+run-no_refusal : (left : Option (List ℕ)) (o : Outcome) → IsRunOutcome left o → o.ending ≢ WordsRefused
+run-no_refusal None o h = h
+run-no_refusal (Some text) o (inl h) = λ e. let same : o.ending ≡ TextRefused = ap (λ (x : Outcome). x.ending) h.1 in cc
+run-no_refusal (Some text) o (inr h) = due-no_refusal text o h.1
+
+status_two : (e : Ending) → status_of e ≡ 2 → e ≡ WordsRefused
+status_two Done h = absurd (omega arith)
+status_two Stopped h = absurd (omega arith)
+status_two TextRefused h = absurd (omega arith)
+status_two WordsRefused h = refl
+
+status_other : (e : Ending) (n : ℕ) → 2 < n → n < 6 → status_of e ≡ n → ⊥
+status_other Done n a b h = omega arith
+status_other Stopped n a b h = omega arith
+status_other TextRefused n a b h = omega arith
+status_other WordsRefused n a b h = omega arith
+
+refused-words : (job : Option Job) (left : Option (List ℕ)) (o : Outcome) → IsDueFor job left o → o.ending ≡ WordsRefused → IsNone job
+refused-words None left o h e = search rules
+refused-words (Some jobs.Run) left o h e = absurd (run-no_refusal left o h e)
+
+-- an outcome that is due and came is an answer
+pub answers-came : (asked job : Option Job) (old new : Ends) (o : Outcome) (answer : ℕ) → asked ≡ job → IsDueFor asked old.left o
+    → CameTo o old new answer → (IsNone asked → Keeps old.left new.left) → old.read_faults ≤ new.read_faults → old.write_faults ≤ new.write_faults
+    → Answers job old new answer
+answers-came asked job old new o answer same due_asked came kept read write =
+    let due : IsDueFor job old.left o = subst (λ j. IsDueFor j old.left o) same due_asked in
+    record {
+      ended = λ a b c. (o, due, came);
+      refused = λ e. refused-words job old.left o due (status_two o.ending (sym came.status ∙ e));
+      unread = unread job (subst (λ j. IsNone j → Keeps old.left new.left) same kept);
+      memory = λ e. absurd (status_other o.ending 3 (omega arith) (omega arith) (sym came.status ∙ e));
+      reading = λ e. absurd (status_other o.ending 4 (omega arith) (omega arith) (sym came.status ∙ e));
+      writing = λ e. absurd (status_other o.ending 5 (omega arith) (omega arith) (sym came.status ∙ e));
+      read_count = read;
+      write_count = write;
+    }
+  where
+    unread : (j : Option Job) → (IsNone j → Keeps old.left new.left) → (Reads j → ⊥) → Keeps old.left new.left
+    unread None keeps none = keeps (search rules)
+    unread (Some jobs.Run) keeps none = absurd (none tt)

@@ -1,0 +1,86 @@
+-- The call's answer, by its words, and by what its source and sink tell before and after.
+use Rattle.std.specs.Prelude.{◌≡◌, ◌≢◌, ◌≤◌, ◌<◌, ◌⊎◌, ℕ, List, Option, Some, None, IsNone, length}
+use Rattle.std.specs.Io.KnownBytes.{Appends, Keeps}
+use Rattle.hb_io.specs.Causes.{Rose}
+use Rattle.hb_io.specs.Moves.{AppendsFront, TakesCount}
+use Rattle.hb_parse.specs.Items.{Item}
+use Rattle.hb_parse.specs.First.{IsFirst}
+use Rattle.hbird.specs.Outcomes.{Outcome, not_yet, status_of, too_long, words_refused}
+use Rattle.hbird.specs.Report.{report}
+use Rattle.hbird.specs.declared.due.Ending.TheVariants.{WordsRefused}
+use Rattle.hbird.specs.declared.jobs.Job.{Job}
+use Rattle.hbird.specs.declared.jobs.Job.TheVariants.{Run}
+use Rattle.hbird.specs.declared.top.TheConstants.{LIMIT}
+
+-- what the source and the sink tell at one moment
+pub record Ends : Type 0 where
+  pub left : Option (List ℕ)
+  pub read_faults : ℕ
+  pub held : Option (List ℕ)
+  pub write_faults : ℕ
+
+-- the text has the first form, and this is the report of its script
+pub record IsReported (text : List ℕ) (o : Outcome) : Type 0 where
+  pub class : List ℕ
+  pub script : List ℕ
+  pub items : List Item
+  pub first : IsFirst text class script items
+  pub ending : o.ending ≡ (report script items).ending
+  pub lines : o.text ≡ (report script items).text
+  pub takes : o.takes ≡ length text
+
+-- the text does not have the first form
+pub record IsNotYet (text : List ℕ) (o : Outcome) : Type 0 where
+  pub other : (class script : List ℕ) → (items : List Item) → IsFirst text class script items → ⊥
+  pub same : o ≡ not_yet (length text)
+
+-- the text is too long, or its script is run, or it has another form
+abbrev pub IsRunOf : List ℕ → Outcome → Type 0
+IsRunOf text o =
+    ((LIMIT < length text) × (o ≡ too_long LIMIT)) ⊎ ((length text ≤ LIMIT) × (IsReported text o ⊎ IsNotYet text o))
+
+-- an outcome of a run: that of the bytes where the source tells them, and never that of refused words
+abbrev pub IsRunOutcome : Option (List ℕ) → Outcome → Type 0
+IsRunOutcome None o = o.ending ≢ WordsRefused
+IsRunOutcome (Some text) o = IsRunOf text o
+
+-- an outcome that is due for a job
+abbrev pub IsDueFor : Option Job → Option (List ℕ) → Outcome → Type 0
+IsDueFor None left o = o ≡ words_refused
+IsDueFor (Some Run) left o = IsRunOutcome left o
+
+-- the job reads the source
+abbrev pub Reads : Option Job → Type 0
+Reads None = ⊥
+Reads (Some Run) = Unit {0}
+
+-- the outcome is the call's status, its text stands behind what the sink held, and its bytes were taken
+pub record CameTo (o : Outcome) (old new : Ends) (answer : ℕ) : Type 0 where
+  pub status : answer ≡ status_of o.ending
+  pub written : Appends old.held new.held o.text
+  pub taken : TakesCount old.left new.left o.takes
+
+abbrev pub Ended : Option Job → Ends → Ends → ℕ → Type 0
+Ended job old new answer = (o : Outcome) × IsDueFor job old.left o × CameTo o old new answer
+
+-- a fault of the source: its count rose, and nothing was written
+pub record FailedReading (job : Option Job) (old new : Ends) : Type 0 where
+  pub cause : Rose old.read_faults new.read_faults
+  pub reads : Reads job
+  pub nothing : Keeps old.held new.held
+
+-- a fault of the sink: its count rose, and a front of a due text was written
+pub record FailedWriting (job : Option Job) (old new : Ends) : Type 0 where
+  pub cause : Rose old.write_faults new.write_faults
+  pub front : (o : Outcome) × IsDueFor job old.left o × AppendsFront old.held new.held o.text
+
+-- every answer with its cause; want of memory, 3, may come before the first byte is written
+pub record Answers (job : Option Job) (old new : Ends) (answer : ℕ) : Type 0 where
+  pub ended : answer ≢ 3 → answer ≢ 4 → answer ≢ 5 → Ended job old new answer
+  pub refused : answer ≡ 2 → IsNone job
+  pub unread : (Reads job → ⊥) → Keeps old.left new.left
+  pub memory : answer ≡ 3 → Keeps old.held new.held
+  pub reading : answer ≡ 4 → FailedReading job old new
+  pub writing : answer ≡ 5 → FailedWriting job old new
+  pub read_count : old.read_faults ≤ new.read_faults
+  pub write_count : old.write_faults ≤ new.write_faults

@@ -1,0 +1,9 @@
+-- What the program answers: by its words, and by what the bytes read say.
+pub mod Judgement
+pub mod Verdict
+pub mod Jobs
+pub mod Outcomes
+pub mod Report
+pub mod Answers
+pub mod Said
+pub mod Known

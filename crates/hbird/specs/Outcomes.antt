@@ -1,0 +1,34 @@
+-- What a job comes to: how it ends, the text due, and how many bytes of the source it takes.
+use Rattle.std.specs.Prelude.{◌≡◌, ℕ, ◌+◌, List, codes}
+use Rattle.hbird.specs.declared.due.Ending.{Ending}
+use Rattle.hbird.specs.declared.due.Ending.TheVariants.{Done, Stopped, TextRefused, WordsRefused}
+use Rattle.hbird.specs.declared.due.Due.{Due}
+
+-- the exit status
+abbrev pub status_of : Ending → ℕ
+status_of Done = 0
+status_of Stopped = 6
+status_of TextRefused = 1
+status_of WordsRefused = 2
+
+pub record Outcome : Type 0 where
+  pub ending : Ending
+  pub text : List ℕ
+  pub takes : ℕ
+
+-- the words ask for no job
+abbrev pub words_refused : Outcome
+words_refused = record { ending = WordsRefused; text = codes "words refused\n"; takes = 0 }
+
+-- the text is longer than the limit
+abbrev pub too_long : ℕ → Outcome
+too_long limit = record { ending = TextRefused; text = codes "text TooLong\n"; takes = limit + 1 }
+
+-- the text, of this length, has another form than the first
+abbrev pub not_yet : ℕ → Outcome
+not_yet len = record { ending = TextRefused; text = codes "text NotYet\n"; takes = len }
+
+-- the code's value has this ending and this text
+pub record IsDue (due : Due) (how : Ending) (lines : List ℕ) : Type 0 where
+  pub ending : due.ending ≡ how
+  pub text : due.text.items ≡ lines

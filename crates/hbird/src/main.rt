@@ -1,0 +1,51 @@
+//! Runs a program's text from standard input, and writes the report to standard output.
+#![tactic(auto)]
+
+mod call;
+mod due;
+mod jobs;
+mod judge;
+mod methods;
+mod parts;
+mod report;
+mod run;
+mod top;
+
+use hb_io::{RealSink, RealSource};
+use std::io::ErrorKind;
+use std::process::ExitCode;
+use std::rt::Env;
+use top::hbird;
+
+const NO_MEMORY: u8 = 3;
+
+const NO_WORDS: u8 = 7;
+
+// The words after the program's name, or the status that tells why there are none.
+fn words_given(rt: &(impl Env + AllocGlobal)) -> Result<Vec<String>, u8> {
+    match std::env::args(rt) {
+        Ok(words) => words.skip(1).collect(rt.alloc()).map_err(|_| NO_MEMORY),
+        Err(error) if error.kind() == ErrorKind::OutOfMemory => Err(NO_MEMORY),
+        Err(_) => Err(NO_WORDS),
+    }
+}
+
+fn main(rt: HostRuntime) -> ExitCode {
+    let words = match words_given(&rt) {
+        Ok(words) => words,
+        Err(status) => return ExitCode::from(status),
+    };
+    let texts: Result<Vec<&str>, _> = words.iter().map(|word| word.as_str()).collect(rt.alloc());
+    let status = match texts {
+        Ok(texts) => {
+            let mut source = RealSource::new(rt.stdin());
+            let mut sink = RealSink::new(rt.stdout());
+            hbird(rt.alloc(), texts.as_slice(), &mut source, &mut sink)
+        }
+        Err(_) => NO_MEMORY,
+    };
+    ExitCode::from(status)
+}
+
+#[cfg(test)]
+mod tests;
