@@ -1,0 +1,6 @@
+class A
+script main
+type A.hi : (Str) -> Str
+def A.hi(x) "hi " ++ x end
+print A.new.hi("bob")
+end

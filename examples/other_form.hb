@@ -1,0 +1,4 @@
+class A
+script main
+print if true then "yes" else "no" end
+end
