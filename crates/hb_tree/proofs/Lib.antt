@@ -5,3 +5,10 @@ pub mod Growth
 pub mod Example
 pub mod Sites
 pub mod Heights
+pub mod Pages
+pub mod Above
+pub mod FormLemmas
+mod CanonRows
+pub mod Reached
+pub mod Weights
+pub mod CanonLemmas

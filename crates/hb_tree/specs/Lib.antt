@@ -7,3 +7,8 @@ pub mod TreeAt
 pub mod Program
 pub mod Grows
 pub mod Example
+pub mod Pieces
+pub mod Canon
+pub mod Page
+pub mod Forms
+pub mod Roots

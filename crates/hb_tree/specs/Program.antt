@@ -1,5 +1,6 @@
 -- What makes a table a program.
-use Rattle.std.specs.Prelude.{◌≡◌, ℕ, pos, ◌+◌, ◌^◌, ◌<◌, ◌≤◌, ◌≤ℤ◌, List, [], length, drop, All, slice_get, Option, Some, None, IsSomeAnd, IfSome, nat_eq, bytes_eq}
+use Rattle.std.specs.Prelude.{◌≡◌, ℕ, pos, ◌+◌, ◌^◌, ◌<◌, ◌≤◌, ◌≤ℤ◌, List, [], length, drop, All, slice_get, Option, Some, None, IsSomeAnd, IfSome, nat_eq, bytes_eq, FitsSigned}
+use Rattle.std.specs.Int.{w64}
 use Rattle.std.specs.List.{flat_map, IsDistinct, AllByRecursion}
 use Rattle.hb_types.specs.declared.types.TheConstants.{PARAMS_MAX}
 use Rattle.hb_tree.specs.declared.limits.TheConstants.{CLASSES_MAX, SCRIPTS_MAX, NODES_MAX, TYPES_MAX, HEIGHT_MAX, NODES_IN_BODY_MAX, CALLS_IN_BODY_MAX, VARIABLES_MAX, ARGUMENTS_MAX}
@@ -63,9 +64,9 @@ abbrev pub IsMethodIn : Table → Method → Type 0
 IsMethodIn t (method.Named c m) = (c.0 < length t.classes) × (m.0 < length t.names)
 IsMethodIn t (method.Computed c e) = c.0 < length t.classes
 
--- what a node says of itself is known; a definition and its body site name each other, a declaration and its type site too
+-- what a node says of itself is known, and a number is one of an `i64` and not below 0; a definition and its body site name each other, a declaration and its type site too
 abbrev pub IsKnownIn : Table → ℕ → Node → Type 0
-IsKnownIn t id (node.Int n) = pos 0 ≤ℤ n
+IsKnownIn t id (node.Int n) = (pos 0 ≤ℤ n) × FitsSigned w64 n
 IsKnownIn t id (node.Text x) = x.0 < length t.texts
 IsKnownIn t id (node.Var x) = x.0 < length t.names
 IsKnownIn t id (node.New c) = c.0 < length t.classes

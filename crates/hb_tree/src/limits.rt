@@ -12,6 +12,9 @@ pub const TYPES_MAX: usize = 65_534;
 /// How high a node is: one more than the highest of its parts.
 pub const HEIGHT_MAX: usize = 256;
 
+/// How many constructs of a text are open inside one another.
+pub const CONSTRUCTS_MAX: usize = 256;
+
 pub const NODES_IN_BODY_MAX: usize = 4_096;
 
 pub const CALLS_IN_BODY_MAX: usize = 32;

@@ -1,4 +1,4 @@
-//! A small program, made by hand and read back.
+//! A small program, made by hand, read back and printed.
 
 ghost use Rattle.std.specs.Prelude.{◌≡◌, [], ◌∷◌, IfOk, map};
 ghost use Rattle.hb_tree.specs.Table.{table_of};
@@ -6,6 +6,7 @@ ghost use Rattle.hb_tree.specs.Example.{example};
 
 use super::*;
 use crate::node::{ArgList, Method, Placed, arguments};
+use crate::print::print_program;
 use hb_types::types::Ty;
 use std::alloc::{AllocError, Global};
 use std::test::Fail;
@@ -139,5 +140,23 @@ fn a_program_is_read_back(rt: HostRuntime) -> Result<(), Fail> {
         Node::Call(_, _, args) => assert_eq!(rt; arguments(&args), [NodeId(8)].as_slice()),
         _ => unreachable!(),
     }
+    Ok(())
+}
+
+#[test]
+fn a_program_is_printed(rt: HostRuntime) -> Result<(), Fail> {
+    let program = program(rt.alloc())?;
+    let text = print_program(rt.alloc(), &program)?;
+    let expected = b"class A
+setup
+type A.m : (Int) -> Int
+def A.m(x) x end
+end
+script s
+y = \"h\"
+A.new.m(1)
+end
+";
+    assert_eq!(rt; text.as_slice(), expected.as_slice());
     Ok(())
 }
