@@ -6,7 +6,7 @@ use Rattle.hb_lex.specs.declared.kinds.TokenKind.TheVariants as k
 use Rattle.hb_grammar.specs.declared.symbols.Sort.{Sort}
 use Rattle.hb_grammar.specs.declared.symbols.Sort.TheVariants as g
 use Rattle.hb_grammar.specs.declared.symbols.Symbol.{Symbol}
-use Rattle.hb_grammar.specs.declared.symbols.Symbol.TheVariants.{Token as T, Phrase as N}
+use Rattle.hb_grammar.specs.declared.symbols.Symbol.TheVariants.{Token as T, Phrase as N, Action as A}
 use Rattle.hb_grammar.specs.declared.wanted.Wanted.{Wanted}
 use Rattle.hb_grammar.specs.Grammar.{alternatives}
 use Rattle.hb_grammar.specs.Sight.{kind_eq, front, choice, run, Outcome, Unfinished, Done, Missed, wanted_for}
@@ -55,7 +55,7 @@ EndsAt (Missed w at) left = at ≡ left
 
 -- ── a run that is done derives the tokens ──
 
-missed_not_done : {w : Wanted} {n : ℕ} → Missed w n ≡ Done → ⊥
+pub missed_not_done : {w : Wanted} {n : ℕ} → Missed w n ≡ Done → ⊥
 missed_not_done e = cc
 
 pub derives-run : (n : ℕ) (stack : List Symbol) (tokens : List TokenKind) → run n stack tokens ≡ Done → Derives n stack tokens
@@ -68,6 +68,7 @@ derives-run (suc n) (T j ∷ stack) (t ∷ ts) e = elim (cases_Bool (kind_eq t j
   | inl y ↦ (ts, ap (λ x. x ∷ ts) (same_kind t j y), derives-run n stack ts (sym (cond-true (kind_eq t j) (run n stack ts) (Missed (wanted_for j) (length (t ∷ ts))) y) ∙ e))
   | inr f ↦ absurd (missed_not_done (sym (cond-false (kind_eq t j) (run n stack ts) (Missed (wanted_for j) (length (t ∷ ts))) f) ∙ e))
 ]
+derives-run (suc n) (A a ∷ stack) tokens e = derives-run n stack tokens e
 derives-run (suc n) (N sort ∷ stack) tokens e = (choice (alternatives sort) (front tokens), is_choice sort tokens, derives-run n (choice (alternatives sort) (front tokens) ++ stack) tokens e)
 
 -- ── where a run ends early ──
@@ -85,6 +86,7 @@ left_at_most (suc n) (T j ∷ stack) (t ∷ ts) left e = elim (cases_Bool (kind_
   | inr f ↦ let P = λ (o : Outcome). EndsAt o left in
       let h : length (t ∷ ts) ≡ left = subst P (cond-false (kind_eq t j) (run n stack ts) (Missed (wanted_for j) (length (t ∷ ts))) f) e in omega arith
 ]
+left_at_most (suc n) (A a ∷ stack) tokens left e = left_at_most n stack tokens left e
 left_at_most (suc n) (N sort ∷ stack) tokens left e = left_at_most n (choice (alternatives sort) (front tokens) ++ stack) tokens left e
 
 -- the first token of these, with any tokens behind it in place of the others
@@ -121,6 +123,7 @@ excludes (suc n) (T j ∷ stack) (t ∷ ts) rest w f e (suc m) more d =
     let y : kind_eq t j ≡ true = rw same (kind_same j) in
     let P = λ (x : List TokenKind). Derives m stack x in
     excludes n stack ts rest w f (sym (cond-true (kind_eq t j) (run n stack (ts ++ rest)) (Missed (wanted_for j) (length (t ∷ (ts ++ rest)))) y) ∙ e) m more (subst P others d.2)
+excludes (suc n) (A a ∷ stack) before rest w f e (suc m) more d = excludes n stack before rest w f e m more d
 excludes (suc n) (N sort ∷ stack) before rest w f e (suc m) more d =
     let chosen : choice (alternatives sort) (front (before ++ with_first rest more)) ≡ d.0 = choice-derives m sort stack (before ++ with_first rest more) d.0 f d.1 d.2 in
     let same : choice (alternatives sort) (front (before ++ rest)) ≡ d.0 = sym (ap (λ x. choice (alternatives sort) x) (front-with_first before rest more)) ∙ chosen in
@@ -135,13 +138,16 @@ Derives-append (suc n) m [] b x y d e = let P = λ (z : List TokenKind). Derives
 Derives-append (suc n) m (T j ∷ a) b x y d e =
     let r : (k : ℕ) × Derives k (a ++ b) (d.0 ++ y) = Derives-append n m a b d.0 y d.2 e in
     (suc r.0, (d.0 ++ y, ap (λ z. z ++ y) d.1, r.1))
+Derives-append (suc n) m (A z ∷ a) b x y d e =
+    let r : (k : ℕ) × Derives k (a ++ b) (x ++ y) = Derives-append n m a b x y d e in
+    (suc r.0, r.1)
 Derives-append (suc n) m (N sort ∷ a) b x y d e =
     let r : (k : ℕ) × Derives k ((d.0 ++ a) ++ b) (x ++ y) = Derives-append n m (d.0 ++ a) b x y d.2 e in
     let P = λ (z : List Symbol). Derives r.0 z (x ++ y) in
     (suc r.0, (d.0, d.1, subst P (append_assoc d.0 a b) r.1))
 
 -- a short phrase of each sort
-phrase_of : Sort → List TokenKind
+pub phrase_of : Sort → List TokenKind
 phrase_of g.Program = []
 phrase_of g.Classes = []
 phrase_of g.Scripts = []
@@ -170,11 +176,11 @@ phrase_of g.ArgumentList = []
 phrase_of g.MoreArguments = []
 phrase_of g.Primary = k.Number ∷ []
 phrase_of g.Value = k.Number ∷ []
-phrase_of g.ElsePart = []
+phrase_of g.ElsePart = k.KwEnd ∷ []
 phrase_of g.Parameters = []
 phrase_of g.MoreParameters = []
 
-phrase_done : (sort : Sort) → run 40 (N sort ∷ []) (phrase_of sort) ≡ Done
+pub phrase_done : (sort : Sort) → run 40 (N sort ∷ []) (phrase_of sort) ≡ Done
 unfolding run phrase_of
 phrase_done g.Program = refl
 phrase_done g.Classes = refl
@@ -211,6 +217,7 @@ phrase_done g.MoreParameters = refl
 pub has_sentence : (stack : List Symbol) → (more : List TokenKind) × IsSentence stack more
 has_sentence [] = ([], (1, refl))
 has_sentence (T j ∷ stack) = let h : (more : List TokenKind) × IsSentence stack more = has_sentence stack in (j ∷ h.0, (suc h.1.0, (h.0, refl, h.1.1)))
+has_sentence (A a ∷ stack) = let h : (more : List TokenKind) × IsSentence stack more = has_sentence stack in (h.0, (suc h.1.0, h.1.1))
 has_sentence (N sort ∷ stack) =
     let h : (more : List TokenKind) × IsSentence stack more = has_sentence stack in
     let d : Derives 40 (N sort ∷ []) (phrase_of sort) = derives-run 40 (N sort ∷ []) (phrase_of sort) (phrase_done sort) in
@@ -241,6 +248,9 @@ begins-run (suc n) (T j ∷ stack) (t ∷ ts) left e = elim (cases_Bool (kind_eq
       record { before = t ∷ r.before; rest = r.rest; cut = ap (λ x. t ∷ x) r.cut; here = r.here; begins = (r.begins.0, (suc r.begins.1.0, (r.before ++ r.begins.0, ap (λ x. x ∷ (r.before ++ r.begins.0)) (same_kind t j y), r.begins.1.1))) }
   | inr f ↦ let P = λ (o : Outcome). EndsAt o left in at_once (T j ∷ stack) (t ∷ ts) left (subst P (cond-false (kind_eq t j) (run n stack ts) (Missed (wanted_for j) (length (t ∷ ts))) f) e)
 ]
+begins-run (suc n) (A a ∷ stack) tokens left e =
+    let r : BeginsBefore stack tokens left = begins-run n stack tokens left e in
+    record { before = r.before; rest = r.rest; cut = r.cut; here = r.here; begins = (r.begins.0, (suc r.begins.1.0, r.begins.1.1)) }
 begins-run (suc n) (N sort ∷ stack) tokens left e =
     let phrase : List Symbol = choice (alternatives sort) (front tokens) in
     let r : BeginsBefore (phrase ++ stack) tokens left = begins-run n (phrase ++ stack) tokens left e in

@@ -4,5 +4,6 @@ pub mod ExactLemmas
 pub mod WantedLemmas
 pub mod TopLemmas
 pub mod PotentialLemmas
-pub mod RunLemmas
+pub mod CourseLemmas
+pub mod ActionLemmas
 pub mod OneLemmas

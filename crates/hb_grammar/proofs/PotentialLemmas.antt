@@ -5,66 +5,20 @@ use Rattle.std.specs.List.{list_all}
 use Rattle.std.specs.Prelude.{nat_lt}
 use Rattle.hb_lex.specs.declared.kinds.TokenKind.{TokenKind}
 use Rattle.hb_lex.specs.declared.kinds.TokenKind.TheVariants as k
+use Rattle.hb_grammar.specs.declared.actions.Action.{Action}
 use Rattle.hb_grammar.specs.declared.symbols.Sort.{Sort}
-use Rattle.hb_grammar.specs.declared.symbols.Sort.TheVariants as g
 use Rattle.hb_grammar.specs.declared.symbols.Symbol.{Symbol}
-use Rattle.hb_grammar.specs.declared.symbols.Symbol.TheVariants.{Token as T, Phrase as N}
+use Rattle.hb_grammar.specs.declared.symbols.Symbol.TheVariants.{Token as T, Phrase as N, Action as A}
 use Rattle.hb_grammar.specs.Grammar.{alternatives}
 use Rattle.hb_grammar.specs.Sight.{is_kind, front, choice}
+use Rattle.hb_grammar.specs.Measure.{weight, weights, is_next, potential}
 use Rattle.hb_grammar.proofs.TableLemmas.{sorts}
 use Rattle.hb_grammar.proofs.SightLemmas.{holds_of, is_sort}
-
--- how many turns a phrase may take, at most, before it reads a token
-abbrev pub weight : Sort → ℕ
-weight g.Program = 2
-weight g.Classes = 1
-weight g.Scripts = 1
-weight g.Block = 11
-weight g.Items = 10
-weight g.MoreItems = 1
-weight g.Expression = 8
-weight g.AfterName = 5
-weight g.OtherUnary = 4
-weight g.Method = 5
-weight g.MethodName = 2
-weight g.Signature = 10
-weight g.Types = 4
-weight g.MoreTypes = 1
-weight g.TypeWord = 2
-weight g.MoreComparison = 1
-weight g.Sum = 10
-weight g.MoreSum = 1
-weight g.Product = 8
-weight g.MoreProduct = 1
-weight g.Unary = 6
-weight g.Postfix = 5
-weight g.MorePostfix = 1
-weight g.Arguments = 1
-weight g.ArgumentList = 10
-weight g.MoreArguments = 1
-weight g.Primary = 3
-weight g.Value = 2
-weight g.ElsePart = 1
-weight g.Parameters = 1
-weight g.MoreParameters = 1
-
-abbrev pub weights : List Symbol → ℕ
-weights [] = 0
-weights (T j ∷ stack) = 1 + weights stack
-weights (N s ∷ stack) = weight s + weights stack
-
--- the first symbol is the token in sight
-abbrev pub is_next : List Symbol → Option TokenKind → Bool
-is_next [] sight = false
-is_next (T j ∷ stack) sight = is_kind sight j
-is_next (N s ∷ stack) sight = false
-
-pub potential : List Symbol → List TokenKind → ℕ
-potential stack tokens = if is_next stack (front tokens) then 40 * (length tokens - 1) + weights stack else 40 * length tokens + weights stack
 
 weights-append : (a b : List Symbol) → weights (a ++ b) ≡ weights a + weights b
 weights-append [] b = omega arith
 weights-append (T j ∷ a) b = let h : weights (a ++ b) ≡ weights a + weights b = weights-append a b in omega (arith, h)
+weights-append (A x ∷ a) b = let h : weights (a ++ b) ≡ weights a + weights b = weights-append a b in omega (arith, h)
 weights-append (N s ∷ a) b = let h : weights (a ++ b) ≡ weights a + weights b = weights-append a b in omega (arith, h)
 
 potential-most : (stack : List Symbol) (tokens : List TokenKind) → potential stack tokens ≤ 40 * length tokens + weights stack
@@ -146,6 +100,7 @@ light-other s sight f =
 
 next-some : (stack : List Symbol) (tokens : List TokenKind) → is_next stack (front tokens) ≡ true → 0 < length tokens
 next-some [] tokens y = absurd (both_ways false refl y)
+next-some (A a ∷ stack) tokens y = absurd (both_ways false refl y)
 next-some (N s ∷ stack) tokens y = absurd (both_ways false refl y)
 next-some (T j ∷ stack) [] y = absurd (both_ways false refl y)
 next-some (T j ∷ stack) (t ∷ tokens) y = omega arith
@@ -158,6 +113,10 @@ unfolding potential
 potential-front [] stack tokens most next other =
     let m : potential stack tokens ≤ 40 * length tokens + weights stack = potential-most stack tokens in
     let h : 0 < most = other refl in omega (arith, m, h)
+potential-front (A x ∷ phrase) stack tokens most next other =
+    let h : 1 + weights phrase < most = other refl in
+    let a : weights (phrase ++ stack) ≡ weights phrase + weights stack = weights-append phrase stack in
+    omega (arith, h, a)
 potential-front (N s ∷ phrase) stack tokens most next other =
     let h : weight s + weights phrase < most = other refl in
     let a : weights (phrase ++ stack) ≡ weights phrase + weights stack = weights-append phrase stack in
@@ -180,3 +139,8 @@ potential-front (T j ∷ phrase) stack tokens most next other =
 pub potential-phrase : (s : Sort) (stack : List Symbol) (tokens : List TokenKind) → potential (choice (alternatives s) (front tokens) ++ stack) tokens < potential (N s ∷ stack) tokens
 unfolding potential
 potential-phrase s stack tokens = potential-front (choice (alternatives s) (front tokens)) stack tokens (weight s) (light-next s (front tokens)) (light-other s (front tokens))
+
+-- an action is done
+pub potential-action : (a : Action) (stack : List Symbol) (tokens : List TokenKind) → potential stack tokens < potential (A a ∷ stack) tokens
+unfolding potential
+potential-action a stack tokens = let m : potential stack tokens ≤ 40 * length tokens + weights stack = potential-most stack tokens in omega (arith, m)

@@ -8,7 +8,7 @@ use Rattle.hb_lex.specs.declared.kinds.TokenKind.TheVariants as k
 use Rattle.hb_grammar.specs.declared.symbols.Sort.{Sort}
 use Rattle.hb_grammar.specs.declared.symbols.Sort.TheVariants as g
 use Rattle.hb_grammar.specs.declared.symbols.Symbol.{Symbol}
-use Rattle.hb_grammar.specs.declared.symbols.Symbol.TheVariants.{Token as T, Phrase as N}
+use Rattle.hb_grammar.specs.declared.symbols.Symbol.TheVariants.{Token as T, Phrase as N, Action as A}
 use Rattle.hb_grammar.specs.Grammar.{alternatives}
 use Rattle.hb_grammar.specs.Sight.{among, starts, may_begin, may_be_empty, kind_eq, code, front, choice}
 use Rattle.hb_grammar.specs.Language.{IsOneOf, Derives}
@@ -133,11 +133,13 @@ kind_same a = eq-eqb (code a) (code a) refl
 pub may_begin-append : (a b : List Symbol) (rest : Bool) (sight : Option TokenKind) → may_begin (a ++ b) rest sight ≡ may_begin a (may_begin b rest sight) sight
 may_begin-append [] b rest sight = refl
 may_begin-append (T j ∷ a) b rest sight = refl
+may_begin-append (A x ∷ a) b rest sight = may_begin-append a b rest sight
 may_begin-append (N sort ∷ a) b rest sight = ap (λ x. among (starts sort) sight || (may_be_empty sort && x)) (may_begin-append a b rest sight)
 
 pub may_begin-more : (a : List Symbol) (x y : Bool) (sight : Option TokenKind) → (x ≡ true → y ≡ true) → may_begin a x sight ≡ true → may_begin a y sight ≡ true
 may_begin-more [] x y sight f h = f h
 may_begin-more (T j ∷ a) x y sight f h = h
+may_begin-more (A b ∷ a) x y sight f h = may_begin-more a x y sight f h
 may_begin-more (N sort ∷ a) x y sight f h =
     elim (or_cases (among (starts sort) sight) (may_be_empty sort && may_begin a x sight) h) [
       | inl e ↦ or_left _ _ e
@@ -160,6 +162,7 @@ pub may_begin-derives : (n : ℕ) (stack : List Symbol) (tokens : List TokenKind
 may_begin-derives zero stack tokens d = elim d [ ]
 may_begin-derives (suc n) [] tokens d = rw d refl
 may_begin-derives (suc n) (T j ∷ stack) tokens d = rw d.1 (kind_same j)
+may_begin-derives (suc n) (A a ∷ stack) tokens d = may_begin-derives n stack tokens d
 may_begin-derives (suc n) (N sort ∷ stack) tokens d =
     let sight : Option TokenKind = front tokens in
     let end : Bool = is_none (front tokens) in
@@ -206,11 +209,13 @@ choice_is (q ∷ r ∷ rest) sight p more e = elim (cases_Bool (may_begin q fals
 abbrev pub IsFollowed : List Symbol → Type 0
 IsFollowed [] = Unit {0}
 IsFollowed (T j ∷ stack) = IsFollowed stack
+IsFollowed (A a ∷ stack) = IsFollowed stack
 IsFollowed (N sort ∷ stack) = ((sight : Option TokenKind) → may_begin stack (is_none sight) sight ≡ true → may_follow sort sight ≡ true) × IsFollowed stack
 
 pub IsFollowed-append : (a stack : List Symbol) (follow : Option TokenKind → Bool) → ((sight : Option TokenKind) → may_begin stack (is_none sight) sight ≡ true → follow sight ≡ true) → ((sight : Option TokenKind) → is_followed a (follow sight) sight ≡ true) → IsFollowed stack → IsFollowed (a ++ stack)
 IsFollowed-append [] stack follow f g h = h
 IsFollowed-append (T j ∷ a) stack follow f g h = IsFollowed-append a stack follow f g h
+IsFollowed-append (A b ∷ a) stack follow f g h = IsFollowed-append a stack follow f g h
 IsFollowed-append (N sort ∷ a) stack follow f g h = (
   (λ sight b. implies_then _ _ (and_parts _ _ (g sight)).0 (may_begin-more a _ _ sight (f sight) (sym (may_begin-append a stack (is_none sight) sight) ∙ b))),
   IsFollowed-append a stack follow f (λ sight. (and_parts _ _ (g sight)).1) h,

@@ -6,7 +6,7 @@ use Rattle.hb_lex.specs.declared.kinds.TokenKind.TheVariants as k
 use Rattle.hb_grammar.specs.declared.symbols.Sort.{Sort}
 use Rattle.hb_grammar.specs.declared.symbols.Sort.TheVariants as g
 use Rattle.hb_grammar.specs.declared.symbols.Symbol.{Symbol}
-use Rattle.hb_grammar.specs.declared.symbols.Symbol.TheVariants.{Token as T, Phrase as N}
+use Rattle.hb_grammar.specs.declared.symbols.Symbol.TheVariants.{Token as T, Phrase as N, Action as A}
 use Rattle.hb_grammar.specs.Grammar.{alternatives}
 use Rattle.hb_grammar.specs.Sight.{among, starts, may_begin, may_be_empty}
 
@@ -56,7 +56,7 @@ followers g.ArgumentList = k.CloseParen ∷ []
 followers g.MoreArguments = k.CloseParen ∷ []
 followers g.Primary = behind_primary
 followers g.Value = behind_primary
-followers g.ElsePart = k.KwEnd ∷ []
+followers g.ElsePart = behind_primary
 followers g.Parameters = k.CloseParen ∷ []
 followers g.MoreParameters = k.CloseParen ∷ []
 
@@ -88,6 +88,7 @@ is_clear (phrase ∷ other ∷ more) follow sight = if may_begin phrase false si
 abbrev pub is_followed : List Symbol → Bool → Option TokenKind → Bool
 is_followed [] follow sight = true
 is_followed (T j ∷ stack) follow sight = is_followed stack follow sight
+is_followed (A a ∷ stack) follow sight = is_followed stack follow sight
 is_followed (N sort ∷ stack) follow sight = implies (may_begin stack follow sight) (may_follow sort sight) && is_followed stack follow sight
 
 abbrev pub is_right : Option TokenKind → Sort → Bool

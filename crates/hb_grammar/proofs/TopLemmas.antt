@@ -15,7 +15,7 @@ use Rattle.hb_grammar.proofs.WantedLemmas.{IsCapped, Follows, follows-run, lowes
 use Rattle.hb_grammar.proofs.ExactLemmas.{excludes, begins-run, derives-run, BeginsBefore, EndsAt, with_first}
 
 -- a list cut in two is cut at the length of its first part
-cut_at : (before rest : List TokenKind) → take (length before) (before ++ rest) ≡ before
+pub cut_at : (before rest : List TokenKind) → take (length before) (before ++ rest) ≡ before
 cut_at [] rest = refl
 cut_at (x ∷ before) rest = ap (λ z. x ∷ z) (cut_at before rest)
 
@@ -23,7 +23,7 @@ cut_after : (before : List TokenKind) (t : TokenKind) (rest : List TokenKind) �
 cut_after [] t rest = refl
 cut_after (x ∷ before) t rest = rw add-one (ap (λ z. x ∷ z) (let h : take (length before + 1) (before ++ t ∷ rest) ≡ before ++ t ∷ [] = cut_after before t rest in rw add-one at h))
 
-ends_program : IsFollowed program
+pub ends_program : IsFollowed program
 ends_program = (
   (λ sight b. elim sight as (λ (x : Option TokenKind). may_begin [] (is_none x) x ≡ true → may_follow g.Program x ≡ true) [
     | None ↦ (λ e. refl)

@@ -5,10 +5,11 @@ use Rattle.std.specs.List.{list_all, list_any}
 use Rattle.std.specs.Prelude.{is_none, nat_le}
 use Rattle.hb_lex.specs.declared.kinds.TokenKind.{TokenKind}
 use Rattle.hb_lex.specs.declared.kinds.TokenKind.TheVariants as k
+use Rattle.hb_grammar.specs.declared.actions.Action.{Action}
 use Rattle.hb_grammar.specs.declared.symbols.Sort.{Sort}
 use Rattle.hb_grammar.specs.declared.symbols.Sort.TheVariants as g
 use Rattle.hb_grammar.specs.declared.symbols.Symbol.{Symbol}
-use Rattle.hb_grammar.specs.declared.symbols.Symbol.TheVariants.{Token as T, Phrase as N}
+use Rattle.hb_grammar.specs.declared.symbols.Symbol.TheVariants.{Token as T, Phrase as N, Action as A}
 use Rattle.hb_grammar.specs.declared.wanted.Wanted.{Wanted}
 use Rattle.hb_grammar.specs.declared.wanted.Wanted.TheVariants as want
 use Rattle.hb_grammar.specs.Grammar.{alternatives}
@@ -67,13 +68,14 @@ cap g.ArgumentList = 3
 cap g.MoreArguments = 3
 cap g.Primary = 3
 cap g.Value = 3
-cap g.ElsePart = 0
+cap g.ElsePart = 3
 cap g.Parameters = 3
 cap g.MoreParameters = 3
 
 abbrev pub is_empty : List Symbol → Bool
 is_empty [] = true
 is_empty (T j ∷ stack) = false
+is_empty (A a ∷ stack) = is_empty stack
 is_empty (N sort ∷ stack) = may_be_empty sort && is_empty stack
 
 -- the symbols may begin with something of at most this rank
@@ -83,6 +85,7 @@ has_want stack most = list_any (λ w. nat_le (rank w) most && may_begin stack fa
 abbrev pub is_capped : List Symbol → ℕ → Bool
 is_capped [] most = true
 is_capped (T j ∷ stack) most = is_capped stack most
+is_capped (A a ∷ stack) most = is_capped stack most
 is_capped (N sort ∷ stack) most = (has_want stack (cap sort) || (is_empty stack && nat_le most (cap sort))) && is_capped stack most
 
 abbrev pub last_of : List (List Symbol) → List Symbol
@@ -174,6 +177,7 @@ goes_on (suc n) [] (t ∷ ts) w e b = both_ways false refl b
 goes_on (suc n) (T j ∷ stack) [] w e b = both_ways false refl b
 goes_on (suc n) (T j ∷ stack) (t ∷ ts) w e b =
     let h : length (t ∷ ts) ≤ length ts = left_at_most n stack ts (length (t ∷ ts)) (ends_at _ w _ (sym (cond-true (kind_eq t j) (run n stack ts) (Missed (wanted_for j) (length (t ∷ ts))) b) ∙ e)) in omega arith
+goes_on (suc n) (A a ∷ stack) tokens w e b = goes_on n stack tokens w e b
 goes_on (suc n) (N sort ∷ stack) tokens w e b =
     goes_on n (choice (alternatives sort) (front tokens) ++ stack) tokens w e
     (may_begin-append (choice (alternatives sort) (front tokens)) stack (is_none (front tokens)) (front tokens) ∙ choice_begins sort (front tokens) (may_begin stack (is_none (front tokens)) (front tokens)) b)
@@ -196,6 +200,7 @@ begins_more a stack sight h = may_begin-append a stack (is_none sight) sight ∙
 begins_behind : (a : List Symbol) (rest : Bool) (sight : Option TokenKind) → is_empty a ≡ true → rest ≡ true → may_begin a rest sight ≡ true
 begins_behind [] rest sight e h = h
 begins_behind (T j ∷ a) rest sight e h = absurd (both_ways false refl e)
+begins_behind (A b ∷ a) rest sight e h = begins_behind a rest sight e h
 begins_behind (N sort ∷ a) rest sight e h =
     let p : (may_be_empty sort ≡ true) × (is_empty a ≡ true) = and_parts (may_be_empty sort) (is_empty a) e in
     or_right (among (starts sort) sight) (may_be_empty sort && may_begin a rest sight) (and_from (may_be_empty sort) (may_begin a rest sight) p.0 (begins_behind a rest sight p.1 h))
@@ -216,11 +221,13 @@ offers_behind a stack least most e le o = record {
 abbrev pub IsCapped : List Symbol → Type 0
 IsCapped [] = Unit {0}
 IsCapped (T j ∷ stack) = IsCapped stack
+IsCapped (A a ∷ stack) = IsCapped stack
 IsCapped (N sort ∷ stack) = Offers stack (cap sort) × IsCapped stack
 
 IsCapped-append : (a stack : List Symbol) (most : ℕ) → is_capped a most ≡ true → Offers stack most → IsCapped stack → IsCapped (a ++ stack)
 IsCapped-append [] stack most h o c = c
 IsCapped-append (T j ∷ a) stack most h o c = IsCapped-append a stack most h o c
+IsCapped-append (A b ∷ a) stack most h o c = IsCapped-append a stack most h o c
 IsCapped-append (N sort ∷ a) stack most h o c =
     let p : ((has_want a (cap sort) || (is_empty a && nat_le most (cap sort))) ≡ true) × (is_capped a most ≡ true) = and_parts (has_want a (cap sort) || (is_empty a && nat_le most (cap sort))) (is_capped a most) h in (
       elim (or_cases (has_want a (cap sort)) (is_empty a && nat_le most (cap sort)) p.0) [
@@ -290,7 +297,7 @@ want_item want.Arrow h = absurd (both_ways false refl h)
 want_item want.New h = absurd (both_ways false refl h)
 want_item want.Item h = omega arith
 
-same_want : {a b : Wanted} {m n : ℕ} → Missed a m ≡ Missed b n → a ≡ b
+pub same_want : {a b : Wanted} {m n : ℕ} → Missed a m ≡ Missed b n → a ≡ b
 same_want e = cc
 
 lowest_here : (n : ℕ) (stack : List Symbol) (tokens : List TokenKind) (w : Wanted) → IsCapped stack → run n stack tokens ≡ Missed w (length tokens) → (other : Wanted) → may_begin stack (is_none (sign other)) (sign other) ≡ true → rank w ≤ rank other
@@ -303,6 +310,7 @@ lowest_here (suc n) (T j ∷ stack) (t ∷ ts) w c e other b = elim (cases_Bool 
   | inl y ↦ let h : length (t ∷ ts) ≤ length ts = left_at_most n stack ts (length (t ∷ ts)) (ends_at _ w _ (sym (cond-true (kind_eq t j) (run n stack ts) (Missed (wanted_for j) (length (t ∷ ts))) y) ∙ e)) in absurd (omega arith)
   | inr f ↦ let P = λ (x : Wanted). rank x ≤ rank other in subst P (same_want (sym (cond-false (kind_eq t j) (run n stack ts) (Missed (wanted_for j) (length (t ∷ ts))) f) ∙ e)) (want_sign other j b)
 ]
+lowest_here (suc n) (A a ∷ stack) tokens w c e other b = lowest_here n stack tokens w c e other b
 lowest_here (suc n) (N sort ∷ stack) tokens w c e other b =
     let sight : Option TokenKind = front tokens in
     let phrase : List Symbol = choice (alternatives sort) (front tokens) in
@@ -336,6 +344,7 @@ lowest (suc n) (T j ∷ stack) (t ∷ before) rest w f c e other (suc m) more d 
     let y : kind_eq t j ≡ true = rw same (kind_same j) in
     let P = λ (x : List TokenKind). Derives m stack x in
     lowest n stack before rest w f c (sym (cond-true (kind_eq t j) (run n stack (before ++ rest)) (Missed (wanted_for j) (length (t ∷ (before ++ rest)))) y) ∙ e) other m more (subst P tail d.2)
+lowest (suc n) (A a ∷ stack) (t ∷ before) rest w f c e other (suc m) more d = lowest n stack (t ∷ before) rest w f c e other m more d
 lowest (suc n) (N sort ∷ stack) (t ∷ before) rest w f c e other (suc m) more d =
     let chosen : choice (alternatives sort) (Some t) ≡ d.0 = choice-derives m sort stack (t ∷ (before ++ with_sign (sign other) more)) d.0 f d.1 d.2 in
     let P = λ (p : List Symbol). run n (p ++ stack) (t ∷ (before ++ rest)) ≡ Missed w (length rest) in
@@ -347,11 +356,13 @@ lowest (suc n) (N sort ∷ stack) (t ∷ before) rest w f c e other (suc m) more
 abbrev pub sign_ok : List Symbol → Bool
 sign_ok [] = true
 sign_ok (T j ∷ stack) = is_kind (sign (wanted_for j)) j && sign_ok stack
+sign_ok (A a ∷ stack) = sign_ok stack
 sign_ok (N sort ∷ stack) = sign_ok stack
 
 abbrev pub behind_first : List Symbol → List Symbol
 behind_first [] = []
 behind_first (T j ∷ stack) = stack
+behind_first (A a ∷ stack) = A a ∷ stack
 behind_first (N sort ∷ stack) = N sort ∷ stack
 
 abbrev pub signs_ok : List (List Symbol) → Bool
@@ -359,12 +370,13 @@ signs_ok [] = true
 signs_ok (p ∷ []) = sign_ok p
 signs_ok (p ∷ q ∷ more) = sign_ok (behind_first p) && signs_ok (q ∷ more)
 
-all_signs : list_all (λ sort. signs_ok (alternatives sort)) sorts ≡ true
+pub all_signs : list_all (λ sort. signs_ok (alternatives sort)) sorts ≡ true
 all_signs = refl
 
 sign_ok-append : (a b : List Symbol) → sign_ok a ≡ true → sign_ok b ≡ true → sign_ok (a ++ b) ≡ true
 sign_ok-append [] b h g = g
 sign_ok-append (T j ∷ a) b h g = let p : (is_kind (sign (wanted_for j)) j ≡ true) × (sign_ok a ≡ true) = and_parts (is_kind (sign (wanted_for j)) j) (sign_ok a) h in and_from (is_kind (sign (wanted_for j)) j) (sign_ok (a ++ b)) p.0 (sign_ok-append a b p.1 g)
+sign_ok-append (A x ∷ a) b h g = sign_ok-append a b h g
 sign_ok-append (N sort ∷ a) b h g = sign_ok-append a b h g
 
 -- each token of the stack is a sign, or the first is the token in sight
@@ -374,9 +386,10 @@ IsSigned sight stack = (sign_ok stack ≡ true) ⊎ ((j : TokenKind) × (more : 
 signed_phrase : (sight : Option TokenKind) (phrase stack : List Symbol) → may_begin phrase false sight ≡ true → sign_ok (behind_first phrase) ≡ true → sign_ok stack ≡ true → IsSigned sight (phrase ++ stack)
 signed_phrase sight [] stack b h g = inl g
 signed_phrase sight (T j ∷ phrase) stack b h g = inr (j, phrase ++ stack, refl, b, sign_ok-append phrase stack h g)
+signed_phrase sight (A a ∷ phrase) stack b h g = inl (sign_ok-append (A a ∷ phrase) stack h g)
 signed_phrase sight (N sort ∷ phrase) stack b h g = inl (sign_ok-append (N sort ∷ phrase) stack h g)
 
-signed_choice : (phrases : List (List Symbol)) (sight : Option TokenKind) (stack : List Symbol) → signs_ok phrases ≡ true → sign_ok stack ≡ true → IsSigned sight (choice phrases sight ++ stack)
+pub signed_choice : (phrases : List (List Symbol)) (sight : Option TokenKind) (stack : List Symbol) → signs_ok phrases ≡ true → sign_ok stack ≡ true → IsSigned sight (choice phrases sight ++ stack)
 signed_choice [] sight stack h g = inl g
 signed_choice (p ∷ []) sight stack h g = inl (sign_ok-append p stack h g)
 signed_choice (p ∷ q ∷ more) sight stack h g =
@@ -391,11 +404,18 @@ signed_choice (p ∷ q ∷ more) sight stack h g =
 sort_no_token : {sort : Sort} {stack more : List Symbol} {j : TokenKind} → N sort ∷ stack ≡ T j ∷ more → ⊥
 sort_no_token e = cc
 
-sign_is : (o : Option TokenKind) (j : TokenKind) → is_kind o j ≡ true → o ≡ Some j
+pub sign_is : (o : Option TokenKind) (j : TokenKind) → is_kind o j ≡ true → o ≡ Some j
 sign_is None j h = absurd (both_ways false refl h)
 sign_is (Some t) j h = ap (λ (x : TokenKind). let y : Option TokenKind = Some x in y) (same_kind t j h)
 
-signed_sort : (sight : Option TokenKind) (sort : Sort) (stack : List Symbol) → IsSigned sight (N sort ∷ stack) → sign_ok stack ≡ true
+action_no_token : {a : Action} {stack more : List Symbol} {j : TokenKind} → A a ∷ stack ≡ T j ∷ more → ⊥
+action_no_token e = cc
+
+pub signed_action : (sight : Option TokenKind) (a : Action) (stack : List Symbol) → IsSigned sight (A a ∷ stack) → sign_ok stack ≡ true
+signed_action sight a stack (inl h) = h
+signed_action sight a stack (inr h) = absurd (action_no_token h.2)
+
+pub signed_sort : (sight : Option TokenKind) (sort : Sort) (stack : List Symbol) → IsSigned sight (N sort ∷ stack) → sign_ok stack ≡ true
 signed_sort sight sort stack (inl h) = h
 signed_sort sight sort stack (inr h) = absurd (sort_no_token h.2)
 
@@ -414,11 +434,11 @@ follows_at_once j stack tokens w e h =
     let P = λ (x : Option TokenKind). IsSentence (T j ∷ stack) (with_sign x whole.0) in
     record { before = []; rest = tokens; cut = refl; here = refl; may = (whole.0, subst P (sym o) (suc whole.1.0, (whole.0, refl, whole.1.1))) }
 
-signed_tail : (t j : TokenKind) (stack : List Symbol) → IsSigned (Some t) (T j ∷ stack) → sign_ok stack ≡ true
+pub signed_tail : (t j : TokenKind) (stack : List Symbol) → IsSigned (Some t) (T j ∷ stack) → sign_ok stack ≡ true
 signed_tail t j stack (inl h) = (and_parts (is_kind (sign (wanted_for j)) j) (sign_ok stack) h).1
 signed_tail t j stack (inr h) = let e : stack ≡ h.1 = cc (h.2) in ap sign_ok e ∙ h.4
 
-signed_first : (sight : Option TokenKind) (j : TokenKind) (stack : List Symbol) → IsSigned sight (T j ∷ stack) → is_kind sight j ≡ false → is_kind (sign (wanted_for j)) j ≡ true
+pub signed_first : (sight : Option TokenKind) (j : TokenKind) (stack : List Symbol) → IsSigned sight (T j ∷ stack) → is_kind sight j ≡ false → is_kind (sign (wanted_for j)) j ≡ true
 signed_first sight j stack (inl h) f = (and_parts (is_kind (sign (wanted_for j)) j) (sign_ok stack) h).0
 signed_first sight j stack (inr h) f = let e : j ≡ h.0 = cc (h.2) in absurd (both_ways (is_kind sight h.0) (ap (λ (x : TokenKind). is_kind sight x) (sym e) ∙ f) h.3)
 
@@ -442,6 +462,9 @@ follows-run (suc n) (T j ∷ stack) (t ∷ ts) w left g e = elim (cases_Bool (ki
       let h : length (t ∷ ts) ≡ left = cc z in
       subst P h (follows_at_once j stack (t ∷ ts) w (sym (same_want z)) (signed_first (Some t) j stack g f))
 ]
+follows-run (suc n) (A a ∷ stack) tokens w left g e =
+    let r : Follows stack tokens w left = follows-run n stack tokens w left (inl (signed_action (front tokens) a stack g)) e in
+    record { before = r.before; rest = r.rest; cut = r.cut; here = r.here; may = (r.may.0, (suc r.may.1.0, r.may.1.1)) }
 follows-run (suc n) (N sort ∷ stack) tokens w left g e =
     let phrase : List Symbol = choice (alternatives sort) (front tokens) in
     let ok : signs_ok (alternatives sort) ≡ true = holds_of (λ (x : Sort). signs_ok (alternatives x)) sorts sort all_signs (is_sort sort) in

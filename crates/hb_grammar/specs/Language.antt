@@ -1,11 +1,13 @@
 -- What the grammar means: which lists of tokens are programs, and where a list stops to begin one.
 use Rattle.std.specs.Prelude.{◌≡◌, ℕ, zero, suc, ◌⊎◌, ◌+◌, ◌<◌, ◌≤◌, List, [], ◌∷◌, ◌++◌, length, map, take, Option, Some, None}
+use Rattle.std.specs.List.{AllByRecursion}
 use Rattle.hb_lex.specs.declared.kinds.TokenKind.{TokenKind}
 use Rattle.hb_lex.specs.declared.kinds.TokenKind.TheVariants as k
 use Rattle.hb_lex.specs.declared.spans.Token.{Token}
+use Rattle.hb_grammar.specs.declared.actions.Action.{Action}
 use Rattle.hb_grammar.specs.declared.symbols.Sort.TheVariants as g
 use Rattle.hb_grammar.specs.declared.symbols.Symbol.{Symbol}
-use Rattle.hb_grammar.specs.declared.symbols.Symbol.TheVariants.{Token as T, Phrase as N}
+use Rattle.hb_grammar.specs.declared.symbols.Symbol.TheVariants.{Token as T, Phrase as N, Action as A}
 use Rattle.hb_grammar.specs.declared.wanted.Wanted.{Wanted}
 use Rattle.hb_grammar.specs.declared.wanted.Wanted.TheVariants as want
 use Rattle.hb_grammar.specs.Grammar.{alternatives}
@@ -17,11 +19,12 @@ abbrev pub IsOneOf : {X : Type 0} → List X → X → Type 0
 IsOneOf [] x = ⊥
 IsOneOf (y ∷ ys) x = (x ≡ y) ⊎ IsOneOf ys x
 
--- the symbols derive the tokens, in at most n steps
+-- the symbols derive the tokens, in at most n steps; actions stand for no tokens
 abbrev pub Derives : ℕ → List Symbol → List TokenKind → Type 0
 Derives zero stack tokens = ⊥
 Derives (suc n) [] tokens = tokens ≡ []
 Derives (suc n) (T j ∷ stack) tokens = (rest : List TokenKind) × (tokens ≡ j ∷ rest) × Derives n stack rest
+Derives (suc n) (A a ∷ stack) tokens = Derives n stack tokens
 Derives (suc n) (N s ∷ stack) tokens = (phrase : List Symbol) × IsOneOf (alternatives s) phrase × Derives n (phrase ++ stack) tokens
 
 -- the tokens are a sentence of the symbols
@@ -98,3 +101,35 @@ IsProgramText tokens = IsSentence program tokens
 pub record Misses (tokens : List TokenKind) (at : ℕ) (w : Wanted) : Type 0 where
   pub missed : IsFirstMissed program tokens at
   pub wanted : IsFirstWanted program (take at tokens) w
+
+-- ── actions ──
+
+-- an action, and how many tokens were read before it
+pub record Act : Type 0 where
+  pub action : Action
+  pub at : ℕ
+
+abbrev pub act : Action → ℕ → Act
+act a at = record { action = a; at = at }
+
+-- the symbols derive the tokens, of which `at` were read before, and these are the actions on the way
+abbrev pub Translates : ℕ → List Symbol → ℕ → List TokenKind → List Act → Type 0
+Translates zero stack at tokens done = ⊥
+Translates (suc n) [] at tokens done = (tokens ≡ []) × (done ≡ [])
+Translates (suc n) (T j ∷ stack) at tokens done = (rest : List TokenKind) × (tokens ≡ j ∷ rest) × Translates n stack (at + 1) rest done
+Translates (suc n) (A a ∷ stack) at tokens done = (later : List Act) × (done ≡ act a at ∷ later) × Translates n stack at tokens later
+Translates (suc n) (N s ∷ stack) at tokens done = (phrase : List Symbol) × IsOneOf (alternatives s) phrase × Translates n (phrase ++ stack) at tokens done
+
+-- the actions of a program's tokens
+abbrev pub HasActions : List TokenKind → List Act → Type 0
+HasActions tokens done = (n : ℕ) × Translates n program 0 tokens done
+
+-- The actions of tokens that begin no program: those that are known where the tokens stop to begin one. They come, in a
+-- program that begins with the tokens before and there has what is wanted, before that is read.
+pub record HasFirstActions (tokens : List TokenKind) (at : ℕ) (w : Wanted) (done : List Act) : Type 0 where
+  pub missed : Misses tokens at w
+  pub more : List TokenKind
+  pub later : List Act
+  pub program : HasActions (take at tokens ++ with_sign (sign w) more) (done ++ later)
+  pub before : AllByRecursion (λ x. x.at ≤ at) done
+  pub behind : AllByRecursion (λ x. at < x.at) later

@@ -1,14 +1,15 @@
--- A run over tokens with one token of sight. It speaks of a parser's steps, and no clause of a public call names it.
-use Rattle.std.specs.Prelude.{◌≡◌, ℕ, zero, suc, List, [], ◌∷◌, ◌++◌, Bool, true, false, ◌&&◌, ◌||◌, length, nat_eq, Option, Some, None, if◌then◌else◌}
+-- A run over tokens with one token of sight. It speaks of the steps of a course; `Language` says what the grammar means.
+use Rattle.std.specs.Prelude.{◌≡◌, ℕ, zero, suc, ◌+◌, List, [], ◌∷◌, ◌++◌, Bool, true, false, ◌&&◌, ◌||◌, length, nat_eq, Option, Some, None, if◌then◌else◌}
 use Rattle.hb_lex.specs.declared.kinds.TokenKind.{TokenKind}
 use Rattle.hb_lex.specs.declared.kinds.TokenKind.TheVariants as k
 use Rattle.hb_grammar.specs.declared.symbols.Sort.{Sort}
 use Rattle.hb_grammar.specs.declared.symbols.Sort.TheVariants as g
 use Rattle.hb_grammar.specs.declared.symbols.Symbol.{Symbol}
-use Rattle.hb_grammar.specs.declared.symbols.Symbol.TheVariants.{Token as T, Phrase as N}
+use Rattle.hb_grammar.specs.declared.symbols.Symbol.TheVariants.{Token as T, Phrase as N, Action as A}
 use Rattle.hb_grammar.specs.declared.wanted.Wanted.{Wanted}
 use Rattle.hb_grammar.specs.declared.wanted.Wanted.TheVariants as want
 use Rattle.hb_grammar.specs.Grammar.{alternatives}
+use Rattle.hb_grammar.specs.Language.{Act, act}
 
 -- kinds by numbers, so that they can be compared by computing
 abbrev pub code : TokenKind → ℕ
@@ -101,7 +102,7 @@ may_be_empty g.ArgumentList = true
 may_be_empty g.MoreArguments = true
 may_be_empty g.Primary = false
 may_be_empty g.Value = false
-may_be_empty g.ElsePart = true
+may_be_empty g.ElsePart = false
 may_be_empty g.Parameters = true
 may_be_empty g.MoreParameters = true
 
@@ -145,7 +146,7 @@ starts g.ArgumentList = expression_starts
 starts g.MoreArguments = k.Comma ∷ []
 starts g.Primary = operand_starts
 starts g.Value = value_starts
-starts g.ElsePart = k.KwElse ∷ []
+starts g.ElsePart = k.KwElse ∷ k.KwEnd ∷ []
 starts g.Parameters = k.Name ∷ []
 starts g.MoreParameters = k.Comma ∷ []
 
@@ -153,6 +154,7 @@ starts g.MoreParameters = k.Comma ∷ []
 abbrev pub may_begin : List Symbol → Bool → Option TokenKind → Bool
 may_begin [] rest sight = rest
 may_begin (T j ∷ stack) rest sight = is_kind sight j
+may_begin (A a ∷ stack) rest sight = may_begin stack rest sight
 may_begin (N s ∷ stack) rest sight = among (starts s) sight || (may_be_empty s && may_begin stack rest sight)
 
 -- the first alternative that may begin with the token, or the last one
@@ -212,16 +214,32 @@ pub data Outcome : Type 0 where
   Done : Outcome
   Missed : Wanted → ℕ → Outcome
 
--- how the run ends: with the number of tokens that are left where it ends early
+-- how the run ends: with the number of tokens that are left where it ends early. Actions do not change it
 unfoldable pub run : ℕ → List Symbol → List TokenKind → Outcome
 run zero stack tokens = Unfinished
 run (suc n) [] [] = Done
 run (suc n) [] (t ∷ ts) = Missed want.Item (length (t ∷ ts))
 run (suc n) (T j ∷ stack) [] = Missed (wanted_for j) 0
 run (suc n) (T j ∷ stack) (t ∷ ts) = if kind_eq t j then run n stack ts else Missed (wanted_for j) (length (t ∷ ts))
+run (suc n) (A a ∷ stack) tokens = run n stack tokens
 run (suc n) (N s ∷ stack) tokens = run n (choice (alternatives s) (front tokens) ++ stack) tokens
 
 -- the run over the tokens with these symbols ahead ends so
 pub record Runs (stack : List Symbol) (tokens : List TokenKind) (o : Outcome) : Type 0 where
   pub steps : ℕ
   pub ends : run steps stack tokens ≡ o
+
+-- the actions on the way of the run, where `at` tokens were read before
+unfoldable pub acts : ℕ → List Symbol → ℕ → List TokenKind → List Act
+acts zero stack at tokens = []
+acts (suc n) [] at tokens = []
+acts (suc n) (T j ∷ stack) at [] = []
+acts (suc n) (T j ∷ stack) at (t ∷ ts) = if kind_eq t j then acts n stack (at + 1) ts else []
+acts (suc n) (A a ∷ stack) at tokens = act a at ∷ acts n stack at tokens
+acts (suc n) (N s ∷ stack) at tokens = acts n (choice (alternatives s) (front tokens) ++ stack) at tokens
+
+-- the run over the tokens with these symbols ahead does these actions and ends so
+pub record Does (stack : List Symbol) (at : ℕ) (tokens : List TokenKind) (done : List Act) (o : Outcome) : Type 0 where
+  pub steps : ℕ
+  pub ends : run steps stack tokens ≡ o
+  pub acts : acts steps stack at tokens ≡ done

@@ -48,6 +48,7 @@ fn may_begin(phrase: &[Symbol], sight: Option<TokenKind>) -> bool
     match phrase {
         [] => false,
         [Symbol::Token(kind), ..] => is_kind(sight, *kind),
+        [Symbol::Action(_), ..] => may_begin(&phrase[1..], sight),
         [Symbol::Phrase(sort), ..] => {
             among(starts(*sort), sight) || (may_be_empty(*sort) && may_begin(&phrase[1..], sight))
         }

@@ -58,7 +58,6 @@ pub fn may_be_empty(sort: Sort) -> bool
         | Arguments
         | ArgumentList
         | MoreArguments
-        | ElsePart
         | Parameters
         | MoreParameters => true,
         _ => false,
@@ -89,7 +88,7 @@ pub fn starts(sort: Sort) -> &'static [TokenKind]
         Postfix | Primary => &OPERAND,
         MorePostfix => &[Dot],
         Value => &VALUE,
-        ElsePart => &[KwElse],
+        ElsePart => &[KwElse, KwEnd],
         Parameters => &[Name],
     }
 }

@@ -1,5 +1,6 @@
 //! The symbols of the grammar.
 
+use crate::actions::Action;
 use hb_lex::TokenKind;
 
 /// A sort of phrase. One whose name begins with `More` is what may go on behind a phrase.
@@ -38,9 +39,10 @@ pub enum Sort {
     MoreParameters,
 }
 
-/// What an alternative is made of: tokens of one kind, and phrases of one sort.
+/// What an alternative is made of: tokens of one kind, phrases of one sort, and what is done between them.
 #[derive(Clone, Copy, Debug, PartialEq, Eq)]
 pub enum Symbol {
     Token(TokenKind),
     Phrase(Sort),
+    Action(Action),
 }

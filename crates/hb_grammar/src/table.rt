@@ -3,9 +3,12 @@
 ghost use Rattle.std.specs.Prelude.{◌≡◌, map};
 ghost use Rattle.hb_grammar.specs.Grammar.{alternatives};
 
+use crate::actions::Action::*;
 use crate::symbols::Sort::{self, *};
-use crate::symbols::Symbol::{self, Phrase as P, Token as T};
+use crate::symbols::Symbol::{self, Action as A, Phrase as P, Token as T};
 use hb_lex::TokenKind::*;
+use hb_tree::node::Op;
+use hb_types::types::Ty;
 
 // The parts of a text.
 
@@ -13,45 +16,84 @@ const PROGRAM: &[&[Symbol]] = &[&[P(Classes)]];
 
 const CLASSES: &[&[Symbol]] = &[
     &[T(Separator), P(Classes)],
-    &[T(KwClass), T(ClassName), P(Classes)],
-    &[T(KwSetup), P(Block), T(KwEnd), P(Scripts)],
-    &[T(KwScript), T(Name), P(Block), T(KwEnd), P(Scripts)],
+    &[T(KwClass), T(ClassName), A(DeclareClass), P(Classes)],
+    &[
+        T(KwSetup),
+        A(BeginSetup),
+        P(Block),
+        T(KwEnd),
+        A(EndBlock),
+        A(EndSetup),
+        P(Scripts),
+    ],
+    &[
+        T(KwScript),
+        T(Name),
+        A(BeginScript),
+        P(Block),
+        T(KwEnd),
+        A(EndBlock),
+        A(EndScript),
+        P(Scripts),
+    ],
     &[],
 ];
 
 const SCRIPTS: &[&[Symbol]] = &[
     &[T(Separator), P(Scripts)],
-    &[T(KwScript), T(Name), P(Block), T(KwEnd), P(Scripts)],
+    &[
+        T(KwScript),
+        T(Name),
+        A(BeginScript),
+        P(Block),
+        T(KwEnd),
+        A(EndBlock),
+        A(EndScript),
+        P(Scripts),
+    ],
     &[],
 ];
 
 // Blocks.
 
-const BLOCK: &[&[Symbol]] = &[&[P(Items)]];
+const BLOCK: &[&[Symbol]] = &[&[A(BeginBlock), P(Items)]];
 
 const ITEMS: &[&[Symbol]] = &[
     &[T(Separator), P(Items)],
-    &[P(Expression), P(MoreItems)],
+    &[P(Expression), A(AddItem), P(MoreItems)],
     &[],
 ];
 
 const MORE_ITEMS: &[&[Symbol]] = &[&[T(Separator), P(Items)], &[]];
 
-const ELSE_PART: &[&[Symbol]] = &[&[T(KwElse), P(Block)], &[]];
-
 // Expressions.
 
 const EXPRESSION: &[&[Symbol]] = &[
-    &[T(Name), P(AfterName)],
-    &[T(KwPrint), P(Expression)],
-    &[T(KwType), P(Method), T(Colon), P(Signature)],
-    &[T(KwTypeAsk), P(Method), T(Colon), P(Signature)],
+    &[T(Name), A(HoldName), P(AfterName)],
+    &[T(KwPrint), A(OpenWord), P(Expression), A(PutPrint)],
+    &[
+        T(KwType),
+        A(HoldDeclare),
+        P(Method),
+        T(Colon),
+        P(Signature),
+        A(PutDeclare(false)),
+    ],
+    &[
+        T(KwTypeAsk),
+        A(HoldDeclare),
+        P(Method),
+        T(Colon),
+        P(Signature),
+        A(PutDeclare(true)),
+    ],
     &[P(OtherUnary), P(MoreProduct), P(MoreSum), P(MoreComparison)],
 ];
 
 const AFTER_NAME: &[&[Symbol]] = &[
-    &[T(Assign), P(Expression)],
+    &[T(Assign), A(OpenAssign), P(Expression), A(PutAssign)],
     &[
+        A(PutVariable),
         P(MorePostfix),
         P(MoreProduct),
         P(MoreSum),
@@ -59,92 +101,210 @@ const AFTER_NAME: &[&[Symbol]] = &[
     ],
 ];
 
-const OTHER_UNARY: &[&[Symbol]] = &[&[T(KwNot), P(Unary)], &[P(Value), P(MorePostfix)]];
+const OTHER_UNARY: &[&[Symbol]] = &[
+    &[T(KwNot), A(OpenWord), P(Unary), A(PutNot)],
+    &[P(Value), P(MorePostfix)],
+];
 
-const MORE_COMPARISON: &[&[Symbol]] = &[&[T(Less), P(Sum)], &[T(Equals), P(Sum)], &[]];
+// Methods and their types.
+
+const METHOD: &[&[Symbol]] = &[&[T(ClassName), A(HoldClass), T(Dot), P(MethodName)]];
+
+const METHOD_NAME: &[&[Symbol]] = &[
+    &[
+        T(OpenParen),
+        A(Open),
+        P(Expression),
+        T(CloseParen),
+        A(Close),
+        A(ComputeMethod),
+    ],
+    &[T(Name), A(NameMethod)],
+];
+
+const SIGNATURE: &[&[Symbol]] = &[&[
+    T(OpenParen),
+    A(Open),
+    P(Types),
+    T(CloseParen),
+    A(Close),
+    T(Arrow),
+    P(TypeWord),
+]];
+
+const TYPES: &[&[Symbol]] = &[&[P(TypeWord), A(AddParameterType), P(MoreTypes)], &[]];
+
+const MORE_TYPES: &[&[Symbol]] = &[
+    &[T(Comma), P(TypeWord), A(AddParameterType), P(MoreTypes)],
+    &[],
+];
+
+const TYPE_WORD: &[&[Symbol]] = &[
+    &[T(ClassName), A(HoldClassType)],
+    &[T(TyBool), A(HoldType(Ty::Bool))],
+    &[T(TyInt), A(HoldType(Ty::Int))],
+    &[T(TyStr), A(HoldType(Ty::Str))],
+    &[T(TyAny), A(HoldType(Ty::Any))],
+    &[T(TyNil), A(HoldType(Ty::Nil))],
+];
+
+// Operators.
+
+const MORE_COMPARISON: &[&[Symbol]] = &[
+    &[T(Less), A(HoldOperator), P(Sum), A(PutBinary(Op::Less))],
+    &[T(Equals), A(HoldOperator), P(Sum), A(PutBinary(Op::Equal))],
+    &[],
+];
 
 const SUM: &[&[Symbol]] = &[&[P(Product), P(MoreSum)]];
 
 const MORE_SUM: &[&[Symbol]] = &[
-    &[T(Plus), P(Product), P(MoreSum)],
-    &[T(Minus), P(Product), P(MoreSum)],
-    &[T(Concat), P(Product), P(MoreSum)],
+    &[
+        T(Plus),
+        A(HoldOperator),
+        P(Product),
+        A(PutBinary(Op::Add)),
+        P(MoreSum),
+    ],
+    &[
+        T(Minus),
+        A(HoldOperator),
+        P(Product),
+        A(PutBinary(Op::Sub)),
+        P(MoreSum),
+    ],
+    &[
+        T(Concat),
+        A(HoldOperator),
+        P(Product),
+        A(PutBinary(Op::Concat)),
+        P(MoreSum),
+    ],
     &[],
 ];
 
 const PRODUCT: &[&[Symbol]] = &[&[P(Unary), P(MoreProduct)]];
 
-const MORE_PRODUCT: &[&[Symbol]] = &[&[T(Times), P(Unary), P(MoreProduct)], &[]];
+const MORE_PRODUCT: &[&[Symbol]] = &[
+    &[
+        T(Times),
+        A(HoldOperator),
+        P(Unary),
+        A(PutBinary(Op::Mul)),
+        P(MoreProduct),
+    ],
+    &[],
+];
 
-const UNARY: &[&[Symbol]] = &[&[T(KwNot), P(Unary)], &[P(Postfix)]];
+const UNARY: &[&[Symbol]] = &[&[T(KwNot), A(OpenWord), P(Unary), A(PutNot)], &[P(Postfix)]];
 
 // Calls and what is called.
 
 const POSTFIX: &[&[Symbol]] = &[&[P(Primary), P(MorePostfix)]];
 
-const MORE_POSTFIX: &[&[Symbol]] = &[&[T(Dot), T(Name), P(Arguments), P(MorePostfix)], &[]];
+const MORE_POSTFIX: &[&[Symbol]] = &[
+    &[
+        T(Dot),
+        T(Name),
+        A(HoldCall),
+        P(Arguments),
+        A(PutCall),
+        P(MorePostfix),
+    ],
+    &[],
+];
 
-const ARGUMENTS: &[&[Symbol]] = &[&[T(OpenParen), P(ArgumentList), T(CloseParen)], &[]];
+const ARGUMENTS: &[&[Symbol]] = &[
+    &[
+        T(OpenParen),
+        A(Open),
+        P(ArgumentList),
+        T(CloseParen),
+        A(Close),
+    ],
+    &[],
+];
 
-const ARGUMENT_LIST: &[&[Symbol]] = &[&[P(Expression), P(MoreArguments)], &[]];
+const ARGUMENT_LIST: &[&[Symbol]] = &[&[P(Expression), A(AddArgument), P(MoreArguments)], &[]];
 
-const MORE_ARGUMENTS: &[&[Symbol]] = &[&[T(Comma), P(Expression), P(MoreArguments)], &[]];
+const MORE_ARGUMENTS: &[&[Symbol]] = &[
+    &[T(Comma), P(Expression), A(AddArgument), P(MoreArguments)],
+    &[],
+];
 
-const PRIMARY: &[&[Symbol]] = &[&[T(Name)], &[P(Value)]];
+const PRIMARY: &[&[Symbol]] = &[&[T(Name), A(HoldName), A(PutVariable)], &[P(Value)]];
 
 const VALUE: &[&[Symbol]] = &[
-    &[T(Text)],
-    &[T(KwNil)],
-    &[T(KwTrue)],
-    &[T(KwFalse)],
-    &[T(KwSelf)],
-    &[T(ClassName), T(Dot), T(KwNew)],
-    &[T(OpenParen), P(Expression), T(CloseParen)],
-    &[T(KwStr), T(OpenParen), P(Expression), T(CloseParen)],
+    &[T(Text), A(PutText)],
+    &[T(KwNil), A(PutNil)],
+    &[T(KwTrue), A(PutBoolean(true))],
+    &[T(KwFalse), A(PutBoolean(false))],
+    &[T(KwSelf), A(PutSelf)],
+    &[T(ClassName), A(HoldClass), T(Dot), T(KwNew), A(PutNew)],
+    &[
+        T(OpenParen),
+        A(Open),
+        P(Expression),
+        T(CloseParen),
+        A(Close),
+    ],
+    &[
+        T(KwStr),
+        A(HoldStr),
+        T(OpenParen),
+        A(Open),
+        P(Expression),
+        T(CloseParen),
+        A(Close),
+        A(PutStr),
+    ],
     &[
         T(KwIf),
+        A(OpenWord),
         P(Expression),
         T(KwThen),
         P(Block),
         P(ElsePart),
-        T(KwEnd),
+        A(PutIf),
     ],
-    &[T(KwWhile), P(Expression), T(KwDo), P(Block), T(KwEnd)],
     &[
-        T(KwDef),
-        P(Method),
-        T(OpenParen),
-        P(Parameters),
-        T(CloseParen),
+        T(KwWhile),
+        A(OpenWord),
+        P(Expression),
+        T(KwDo),
         P(Block),
         T(KwEnd),
+        A(EndBlock),
+        A(PutWhile),
     ],
-    &[T(Number)],
+    &[
+        T(KwDef),
+        A(OpenWord),
+        P(Method),
+        T(OpenParen),
+        A(Open),
+        P(Parameters),
+        T(CloseParen),
+        A(Close),
+        A(BeginBody),
+        P(Block),
+        T(KwEnd),
+        A(EndBlock),
+        A(PutDef),
+    ],
+    &[T(Number), A(PutNumber)],
 ];
 
-// Methods and their types.
+const ELSE_PART: &[&[Symbol]] = &[
+    &[T(KwElse), A(EndBlock), P(Block), T(KwEnd), A(EndBlock)],
+    &[T(KwEnd), A(EndBlock), A(BeginBlock), A(EndBlock)],
+];
 
-const METHOD: &[&[Symbol]] = &[&[T(ClassName), T(Dot), P(MethodName)]];
+const PARAMETERS: &[&[Symbol]] = &[&[T(Name), A(HoldParameter), P(MoreParameters)], &[]];
 
-const METHOD_NAME: &[&[Symbol]] = &[&[T(OpenParen), P(Expression), T(CloseParen)], &[T(Name)]];
-
-const PARAMETERS: &[&[Symbol]] = &[&[T(Name), P(MoreParameters)], &[]];
-
-const MORE_PARAMETERS: &[&[Symbol]] = &[&[T(Comma), T(Name), P(MoreParameters)], &[]];
-
-const SIGNATURE: &[&[Symbol]] = &[&[T(OpenParen), P(Types), T(CloseParen), T(Arrow), P(TypeWord)]];
-
-const TYPES: &[&[Symbol]] = &[&[P(TypeWord), P(MoreTypes)], &[]];
-
-const MORE_TYPES: &[&[Symbol]] = &[&[T(Comma), P(TypeWord), P(MoreTypes)], &[]];
-
-const TYPE_WORD: &[&[Symbol]] = &[
-    &[T(ClassName)],
-    &[T(TyBool)],
-    &[T(TyInt)],
-    &[T(TyStr)],
-    &[T(TyAny)],
-    &[T(TyNil)],
+const MORE_PARAMETERS: &[&[Symbol]] = &[
+    &[T(Comma), T(Name), A(HoldParameter), P(MoreParameters)],
+    &[],
 ];
 
 /// The alternatives of a sort of phrase. (docs/LANGUAGE.md, "The grammar of the whole language")
