@@ -2,7 +2,7 @@
 use Rattle.std.proofs.Common.{◌≡◌, ℕ, ◌+◌, ◌<◌, ◌≤◌, ◌⊎◌, List, [], ◌∷◌, ◌++◌, ◌-◌, map, reverse, take, drop, length, length-drop, Option, Some, None, refl, sym, ap, ◌∙◌, subst, arith, inl, inr, append_assoc, length-append, option_map, IfSome}
 use Rattle.std.specs.Prelude.{slice_get, nat_eq}
 use Rattle.std.specs.List.{AllByRecursion, IsDistinct}
-use Rattle.std.proofs.lemmas.List.{append-nil, take-append-drop, map-append, reverse-append, drop_at, length-map, length-reverse}
+use Rattle.std.proofs.lemmas.List.{append-nil, take-append-drop, take-map, drop-map, map-append, reverse-append, drop_at, length-map, length-reverse}
 use Rattle.std.proofs.lemmas.Option.{none-some}
 use Rattle.hb_types.specs.declared.ids.NodeId.{NodeId}
 use Rattle.hb_types.specs.declared.ids.NameId.{NameId}
@@ -21,10 +21,11 @@ use Rattle.hb_tree.specs.Spelling.{IsText}
 use Rattle.hb_tree.proofs.Lists.{each_weaker}
 use Rattle.hb_tree.proofs.Trees.{tree_at_node, tree_alike, parts_weaker, block_seen}
 use Rattle.hb_tree.proofs.Growth.{parts-kept, expr_node-kept, block_node-kept, node-kept, body-kept, type-kept, root-kept, script-kept, tree_at-grown, all_parts-grown}
-use Rattle.hb_draft.specs.Kept.{IsDraft}
+use Rattle.hb_draft.specs.Kept.{IsDraft, IsKept, greatest, heights_of, heights_after}
 use Rattle.hb_draft.specs.Put.{IsOver, last_nodes}
 use Rattle.hb_draft.specs.Unfinished.{IsExprPart, IsBlockPart, KeepsRoots, trees_of}
 use Rattle.hb_draft.proofs.Lists.{each-append, each_both, each-front, each-back, slice_get-append, slice_get-last, slice_get-single, IsDistinct-front, IsDistinct-moved, IsDistinct-next}
+use Rattle.hb_draft.proofs.Heights.{height-parts, heights_of-numbers}
 use Rattle.hb_draft.proofs.Parts.{all_parts-within, height-node, expr_node-at, block_node-at}
 
 -- a program's nodes have their parts before them
@@ -58,6 +59,10 @@ module _ (t u : Table) (program : IsProgram t) (grown : Grows t u) where
 
   pub trees_of-grown : (ids : List NodeId) → AllByRecursion (λ j. j < length t.nodes) (numbers_of ids) → trees_of u ids ≡ trees_of t ids
   trees_of-grown ids h = ap reverse (each_tree ids h)
+
+  pub heights_of-grown : (ids : List NodeId) → AllByRecursion (λ j. j < length t.nodes) (numbers_of ids) → heights_of u ids ≡ heights_of t ids
+  heights_of-grown [] h = refl
+  heights_of-grown (i ∷ ids) h = rw (tree_at-grown t u grown (founded t program) i.0 h.0, heights_of-grown ids h.1) refl
 
   pub setup-kept : (o : Option NodeId) → IfSome o (IsRootIn t) → IfSome o (IsRootIn u)
   setup-kept None h = h
@@ -222,7 +227,7 @@ module _ (t : Table) (ids : List NodeId) (ts : List (List ℕ)) (texts : AreText
     hand_next : numbers_of (kept ++ record { 0 = id } ∷ []) ≡ numbers_of kept ++ id ∷ []
     hand_next = map-append (λ i. i.0) kept (record { 0 = id } ∷ [])
 
-    pub draft-next : IsNext t ids ts is count bs ys p → IsDraft u (take (length ids - count) ids ++ record { 0 = id } ∷ [])
+    draft-next : IsNext t ids ts is count bs ys p → IsDraft u (take (length ids - count) ids ++ record { 0 = id } ∷ [])
     unfolding kept
     draft-next next = record {
       program = program-next next;
@@ -233,6 +238,31 @@ module _ (t : Table) (ids : List NodeId) (ts : List (List ℕ)) (texts : AreText
       few_texts = omega (arith, draft.few_texts, texts.few, longer);
       few_bodies = omega (arith, draft.few_bodies, next.few_bodies, longer, length-append t.bodies bs);
     }
+
+    height-next : height (tree_at u id) ≡ 1 + greatest (heights_of t taken)
+    unfolding taken
+    height-next =
+        ap height tree-next
+        ∙ height-parts u (tree_at t) id p.node
+        ∙ ap (λ js. 1 + greatest (map (λ j. height (tree_at t j)) js)) over.parts
+        ∙ ap (λ hs. 1 + greatest hs) (heights_of-numbers t taken)
+
+    heights-next : (hs : List ℕ) → hs ≡ heights_of t ids → heights_after count hs ≡ heights_of u (take (length ids - count) ids ++ record { 0 = id } ∷ [])
+    unfolding kept taken
+    heights-next hs same =
+        let f : NodeId → ℕ = λ i. height (tree_at t i.0) in
+        let g : NodeId → ℕ = λ i. height (tree_at u i.0) in
+        ap (heights_after count) same
+        ∙ ap (λ n. take (n - count) (map f ids) ++ (1 + greatest (drop (n - count) (map f ids))) ∷ []) (length-map ids f)
+        ∙ ap (λ xs. xs ++ (1 + greatest (drop (length ids - count) (map f ids))) ∷ []) (take-map f (length ids - count) ids)
+        ∙ ap (λ xs. map f kept ++ (1 + greatest xs) ∷ []) (drop-map f (length ids - count) ids)
+        ∙ ap (λ xs. xs ++ (1 + greatest (map f taken)) ∷ []) (sym (heights_of-grown t u draft.program appended-grows kept kept_within))
+        ∙ ap (λ n. map g kept ++ n ∷ []) (sym height-next)
+        ∙ sym (map-append g kept (record { 0 = id } ∷ []))
+
+    -- so what is kept beside the hand is kept
+    pub kept-next : (hs : List ℕ) → hs ≡ heights_of t ids → IsNext t ids ts is count bs ys p → IsKept u (take (length ids - count) ids ++ record { 0 = id } ∷ []) (heights_after count hs)
+    kept-next hs same next = record { draft = draft-next next; same = heights-next hs same }
 
     trees_of-kept : trees_of t kept ≡ drop count (trees_of t ids)
     trees_of-kept =

@@ -10,11 +10,11 @@ use Rattle.hb_tree.specs.Table.{Table}
 use Rattle.hb_tree.specs.Tree.{TBlock}
 use Rattle.hb_tree.specs.Nodes.{numbers_of, items_of}
 use Rattle.hb_tree.specs.TreeAt.{tree_at, forest_at}
-use Rattle.hb_draft.specs.Kept.{IsDraft}
+use Rattle.hb_draft.specs.Kept.{IsDraft, IsKept, heights_of, heights_after}
 use Rattle.hb_draft.specs.Put.{IsOver, last_nodes}
 use Rattle.hb_draft.specs.Unfinished.{Unfinished, HasExprs, KeepsRoots, Puts, in_hand, trees_of, block_over}
 use Rattle.hb_draft.proofs.Lists.{each-back}
-use Rattle.hb_draft.proofs.Append.{appended, same_texts, IsNext, draft-next, hand-next, roots-next}
+use Rattle.hb_draft.proofs.Append.{appended, same_texts, IsNext, kept-next, hand-next, roots-next}
 use Rattle.hb_draft.proofs.Puts.{hand_after}
 use Rattle.hb_draft.proofs.Hands.{hand-exprs, forest-hand}
 use Rattle.hb_draft.proofs.Steps.{placed_at, enough_nodes}
@@ -80,8 +80,8 @@ module _ (t : Table) (ids : List NodeId) (count : ℕ) (place : ℕ × ℕ) (dra
       few_types = omega (arith, draft.program.limits.types);
     }
 
-    block_draft : IsDraft (with_block t is p) (hand_after t ids count)
-    block_draft = subst (λ (v : Table). IsDraft v (hand_after t ids count)) plain (draft-next t ids t.texts (same_texts t draft.program) is count [] [] p draft over next)
+    block_keeps : (hs : List ℕ) → hs ≡ heights_of t ids → IsKept (with_block t is p) (hand_after t ids count) (heights_after count hs)
+    block_keeps hs same = subst (λ (v : Table). IsKept v (hand_after t ids count) (heights_after count hs)) plain (kept-next t ids t.texts (same_texts t draft.program) is count [] [] p draft over hs same next)
 
     block_puts : Puts (record { table = t; nodes = ids }) (record { table = with_block t is p; nodes = hand_after t ids count }) place (block_over count)
     unfolding in_hand
@@ -103,7 +103,7 @@ module _ (t : Table) (ids : List NodeId) (count : ℕ) (place : ℕ × ℕ) (dra
     }
 
 -- the same, whatever the draft is called
-module _ (s d : Unfinished) (same : s ≡ d) (draft : IsDraft s.table s.nodes) (count : ℕ) (place : ℕ × ℕ) (room : length d.table.nodes < 65535) (has : HasExprs count (in_hand d)) where
+module _ (s d : Unfinished) (same : s ≡ d) (hs : List ℕ) (kept : IsKept s.table s.nodes hs) (count : ℕ) (place : ℕ × ℕ) (room : length d.table.nodes < 65535) (has : HasExprs count (in_hand d)) where
   abbrev b : Placed
   b = placed_at (node.Block (length s.table.items) count) place
 
@@ -119,8 +119,8 @@ module _ (s d : Unfinished) (same : s ≡ d) (draft : IsDraft s.table s.nodes) (
   pub block_enough : count ≤ length s.nodes
   block_enough = enough_nodes s count has'
 
-  pub block_kept : IsDraft new.table new.nodes
-  block_kept = block_draft s.table s.nodes count place draft room' has'
+  pub block_kept : IsKept new.table new.nodes (heights_after count hs)
+  block_kept = block_keeps s.table s.nodes count place kept.draft room' has' hs kept.same
 
   pub block_made : Puts d new place (block_over count)
-  block_made = subst (λ v. Puts v new place (block_over count)) same (block_puts s.table s.nodes count place draft room' has')
+  block_made = subst (λ v. Puts v new place (block_over count)) same (block_puts s.table s.nodes count place kept.draft room' has')

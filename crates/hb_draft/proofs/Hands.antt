@@ -1,16 +1,20 @@
 -- The trees in hand: the last ones, and those below them.
-use Rattle.std.proofs.Common.{◌≡◌, ℕ, ◌+◌, ◌-◌, ◌<◌, ◌≤◌, List, [], ◌∷◌, ◌++◌, map, reverse, take, drop, length, length-drop, refl, sym, ap, ◌∙◌, subst, arith, append_assoc}
+use Rattle.std.proofs.Common.{◌≡◌, ℕ, ◌+◌, ◌-◌, ◌<◌, ◌≤◌, List, [], ◌∷◌, ◌++◌, map, reverse, take, drop, length, length-drop, refl, sym, ap, ◌∙◌, subst, arith, append_assoc, get_or, option_map, Some}
+use Rattle.std.specs.Prelude.{slice_get}
 use Rattle.std.specs.List.{AllByRecursion}
-use Rattle.std.proofs.lemmas.List.{append-nil, take-append-drop, map-append, reverse-append, reverse-reverse, take_at, drop_at, drop_all, length-map, length-reverse}
+use Rattle.std.proofs.lemmas.List.{append-nil, take-append-drop, map-append, reverse-append, reverse-reverse, take_at, drop_at, drop_all, length-map, length-reverse, get_or-reverse}
+use Rattle.std.proofs.lemmas.Option.{slice_get-map, slice_get_read}
 use Rattle.std.proofs.lemmas.List.Elements.{All-from_recursion, recursion_from_All}
 use Rattle.std.proofs.lemmas.List.Sorted.{All-permutation, IsPermutation-reverse, IsPermutation-sym}
 use Rattle.hb_types.specs.declared.ids.NodeId.{NodeId}
 use Rattle.hb_tree.specs.declared.node.Placed.{Placed}
 use Rattle.hb_tree.specs.Table.{Table}
 use Rattle.hb_tree.specs.Tree.{Tree, Trees}
+use Rattle.hb_tree.specs.Counts.{height}
 use Rattle.hb_tree.specs.Nodes.{numbers_of, exprs_of, blocks_of}
 use Rattle.hb_tree.specs.TreeAt.{tree_at, tree_of, forest_at}
 use Rattle.hb_tree.specs.Program.{HasPlaces, IsKnownIn}
+use Rattle.hb_draft.specs.Kept.{IsKept, heights_of}
 use Rattle.hb_draft.specs.Put.{CanPut, PutsNode, with_node, last_nodes}
 use Rattle.hb_draft.specs.Unfinished.{Unfinished, IsExprPart, HasExprs, Puts, in_hand, trees_of, last_in, forest_of}
 
@@ -113,3 +117,31 @@ module _ (d : Unfinished) (p : Placed) (n : ℕ) where
       roots = h.roots;
     };
   }
+
+map-reversed : {X Y : Type 0} (f : X → Y) (xs : List X) → map f (reverse xs) ≡ reverse (map f xs)
+map-reversed f [] = refl
+map-reversed f (x ∷ xs) =
+    ap (map f) (reverse-append (x ∷ []) xs) ∙ map-append f (reverse xs) (x ∷ []) ∙ ap (λ ys. ys ++ f x ∷ []) (map-reversed f xs) ∙ sym (reverse-append (f x ∷ []) (map f xs))
+
+-- the heights in hand, read from the last one
+module _ (s d : Unfinished) (same : s ≡ d) (hs : List ℕ) (kept : IsKept s.table s.nodes hs) where
+  hand-heights : map height (in_hand s) ≡ reverse hs
+  unfolding in_hand
+  hand-heights =
+      let f : NodeId → Tree = λ i. tree_at s.table i.0 in
+      map-reversed height (map f s.nodes) ∙ ap reverse (heights s.nodes ∙ sym kept.same)
+    where
+      heights : (is : List NodeId) → map height (map (λ i. tree_at s.table i.0) is) ≡ heights_of s.table is
+      heights [] = refl
+      heights (i ∷ is) = ap (λ ns. height (tree_at s.table i.0) ∷ ns) (heights is)
+
+  pub as_many : length hs ≡ length (in_hand d)
+  as_many = sym (length-reverse hs) ∙ sym (ap length hand-heights) ∙ length-map (in_hand s) height ∙ ap (λ v. length (in_hand v)) same
+
+  pub height-below : (n below r : ℕ) → n ≡ length hs → below < length (in_hand d) → r ≡ get_or hs (n - 1 - below) r → option_map height (slice_get (in_hand d) below) ≡ Some r
+  height-below n below r long within read =
+      ap (λ v. option_map height (slice_get (in_hand v) below)) (sym same)
+      ∙ sym (slice_get-map height (in_hand s) below)
+      ∙ ap (λ ns. slice_get ns below) hand-heights
+      ∙ slice_get_read (reverse hs) (length hs) below r (sym (length-reverse hs)) (omega (arith, as_many))
+      (read ∙ ap (λ m. get_or hs (m - 1 - below) r) long ∙ sym (get_or-reverse hs below r (omega (arith, as_many))))

@@ -1,6 +1,7 @@
 pub mod WordLists
 pub mod Lists
 pub mod Parts
+pub mod Heights
 pub mod Append
 pub mod Puts
 pub mod Hands
@@ -10,3 +11,5 @@ pub mod Sites
 pub mod Named
 pub mod Texts
 pub mod Empty
+pub mod MadeLemmas
+pub mod Computed

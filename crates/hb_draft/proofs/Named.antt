@@ -2,13 +2,14 @@
 use Rattle.std.proofs.Common.{◌≡◌, ℕ, ◌+◌, ◌-◌, ◌<◌, ◌≤◌, ◌^◌, List, [], ◌∷◌, ◌++◌, take, drop, length, length-append, length-take, append_assoc, false, Option, Some, refl, sym, ap, ◌∙◌, subst, arith, IfSome}
 use Rattle.std.specs.Prelude.{nat_eq, bytes_eq}
 use Rattle.std.specs.List.{AllByRecursion, IsDistinct, list_any}
-use Rattle.std.proofs.lemmas.List.{append-nil, take-append-drop, map-append}
+use Rattle.std.proofs.lemmas.List.{append-nil, take-append-drop, take-map, map-append, length-map}
 use Rattle.hb_types.specs.declared.ids.NodeId.{NodeId}
 use Rattle.hb_types.specs.declared.ids.NameId.{NameId}
 use Rattle.hb_tree.specs.Spelling.{IsName, IsClassName}
 use Rattle.hb_tree.specs.declared.limits.TheConstants.{SCRIPTS_MAX}
 use Rattle.hb_tree.specs.Table.{Table}
 use Rattle.hb_tree.specs.Tree.{Tree, IsBlock, id_of}
+use Rattle.hb_tree.specs.Counts.{height}
 use Rattle.hb_tree.specs.Nodes.{numbers_of}
 use Rattle.hb_tree.specs.TreeAt.{tree_at}
 use Rattle.hb_tree.specs.Program.{IsProgram, IsRootIn, IsScriptIn, all_parts}
@@ -16,13 +17,13 @@ use Rattle.hb_tree.specs.Grows.{Grows, BeginsWith}
 use Rattle.hb_tree.proofs.Lists.{each_weaker}
 use Rattle.hb_tree.proofs.Trees.{id_of-tree_at}
 use Rattle.hb_tree.proofs.Growth.{node-kept, body-kept, type-kept, script-kept, all_parts-grown, tree_at-grown}
-use Rattle.hb_draft.specs.Kept.{IsDraft}
+use Rattle.hb_draft.specs.Kept.{IsDraft, IsKept, heights_of}
 use Rattle.hb_draft.specs.Put.{last_nodes}
 use Rattle.hb_draft.specs.Unfinished.{Unfinished, HasBlock, IsRootBlock, KeepsRoots, AddsClass, AddsName, AddsSetup, AddsScript, in_hand, trees_of}
 use Rattle.hb_draft.specs.Words.{with_word}
 use Rattle.hb_draft.proofs.Lists.{each-append, each-front, each-back, IsDistinct-front}
 use Rattle.hb_draft.proofs.WordLists.{with_word-new, with_word-begins, with_word-each, with_word-length, with_word-apart}
-use Rattle.hb_draft.proofs.Append.{founded, roots-grown, trees_of-grown, setup-kept, script_trees, setup_tree}
+use Rattle.hb_draft.proofs.Append.{founded, roots-grown, trees_of-grown, heights_of-grown, setup-kept, script_trees, setup_tree}
 use Rattle.hb_draft.proofs.Parts.{block_node-at}
 use Rattle.hb_draft.proofs.Hands.{drop-hand}
 use Rattle.hb_draft.proofs.Sites.{one_node, top_hand, top_block}
@@ -90,7 +91,7 @@ module _ (t : Table) (cs ns : List (List ℕ)) (st : Option NodeId) (ss : List (
       scripts = each_weaker (IsScriptIn t) (IsScriptIn u) (script-kept t u named-grows (founded t draft.program)) ss are.scripts;
     }
 
-    pub draft-named : IsDraft u ids
+    draft-named : IsDraft u ids
     draft-named = record {
       program = program-named;
       within = draft.within;
@@ -99,6 +100,9 @@ module _ (t : Table) (cs ns : List (List ℕ)) (st : Option NodeId) (ss : List (
       few_texts = draft.few_texts;
       few_bodies = draft.few_bodies;
     }
+
+    pub kept-named : (hs : List ℕ) → hs ≡ heights_of t ids → IsKept u ids hs
+    kept-named hs same = record { draft = draft-named; same = same ∙ sym (heights_of-grown t u draft.program named-grows ids draft.within) }
 
     pub hand-named : trees_of u ids ≡ trees_of t ids
     hand-named = trees_of-grown t u draft.program named-grows ids draft.within
@@ -144,8 +148,8 @@ module _ (t : Table) (ids : List NodeId) (draft : IsDraft t ids) (word : List �
       scripts = draft.program.scripts;
     }
 
-    class_draft : IsDraft (record t { classes = cs }) ids
-    class_draft = draft-named t cs t.names t.setup t.scripts class_are ids draft
+    class_keeps : (hs : List ℕ) → hs ≡ heights_of t ids → IsKept (record t { classes = cs }) ids hs
+    class_keeps = kept-named t cs t.names t.setup t.scripts class_are ids draft
 
     class_adds : AddsClass old (record { table = record t { classes = cs }; nodes = ids }) word
     unfolding in_hand
@@ -174,8 +178,8 @@ module _ (t : Table) (ids : List NodeId) (draft : IsDraft t ids) (word : List �
       scripts = draft.program.scripts;
     }
 
-    name_draft : IsDraft (record t { names = ns }) ids
-    name_draft = draft-named t t.classes ns t.setup t.scripts name_are ids draft
+    name_keeps : (hs : List ℕ) → hs ≡ heights_of t ids → IsKept (record t { names = ns }) ids hs
+    name_keeps = kept-named t t.classes ns t.setup t.scripts name_are ids draft
 
     name_adds : AddsName old (record { table = record t { names = ns }; nodes = ids }) word
     unfolding in_hand
@@ -233,8 +237,15 @@ module _ (t : Table) (ids : List NodeId) (draft : IsDraft t ids) (b : NodeId) (h
     scripts = draft.program.scripts;
   }
 
-  setup_draft : IsDraft (record t { setup = Some b }) kept
-  setup_draft = draft-named t t.classes t.names (Some b) t.scripts setup_are kept fewer
+  -- the heights without the last one
+  heights_fewer : (hs : List ℕ) → hs ≡ heights_of t ids → take (length hs - 1) hs ≡ heights_of t kept
+  heights_fewer hs same =
+      ap (λ xs. take (length xs - 1) xs) same
+      ∙ ap (λ n. take (n - 1) (heights_of t ids)) (length-map ids (λ i. height (tree_at t i.0)))
+      ∙ take-map (λ i. height (tree_at t i.0)) (length ids - 1) ids
+
+  setup_keeps : (hs : List ℕ) → hs ≡ heights_of t ids → IsKept (record t { setup = Some b }) kept (take (length hs - 1) hs)
+  setup_keeps hs same = kept-named t t.classes t.names (Some b) t.scripts setup_are kept fewer (take (length hs - 1) hs) (heights_fewer hs same)
 
   setup_adds : AddsSetup before (record { table = record t { setup = Some b }; nodes = kept })
   unfolding in_hand
@@ -269,8 +280,8 @@ module _ (t : Table) (ids : List NodeId) (draft : IsDraft t ids) (b : NodeId) (h
           (record { name = known; root = root }, tt);
     }
 
-    script_draft : IsDraft (record t { scripts = ss }) kept
-    script_draft = draft-named t t.classes t.names t.setup ss script_are kept fewer
+    script_keeps : (hs : List ℕ) → hs ≡ heights_of t ids → IsKept (record t { scripts = ss }) kept (take (length hs - 1) hs)
+    script_keeps hs same = kept-named t t.classes t.names t.setup ss script_are kept fewer (take (length hs - 1) hs) (heights_fewer hs same)
 
     script_adds : AddsScript before (record { table = record t { scripts = ss }; nodes = kept }) name.0
     unfolding in_hand
@@ -288,7 +299,7 @@ module _ (t : Table) (ids : List NodeId) (draft : IsDraft t ids) (b : NodeId) (h
         }
 
 -- the same, whatever the draft is called
-module _ (s d : Unfinished) (same : s ≡ d) (draft : IsDraft s.table s.nodes) where
+module _ (s d : Unfinished) (same : s ≡ d) (hs : List ℕ) (kept : IsKept s.table s.nodes hs) where
   module _ (word : List ℕ) (is : IsClassName word) (fresh : list_any (bytes_eq word) d.table.classes ≡ false) (room : length d.table.classes < 256) where
     few_classes : length s.table.classes < 256
     few_classes = subst (λ v. length v.table.classes < 256) (sym same) room
@@ -296,25 +307,25 @@ module _ (s d : Unfinished) (same : s ≡ d) (draft : IsDraft s.table s.nodes) w
     new_class : list_any (bytes_eq word) s.table.classes ≡ false
     new_class = subst (λ v. list_any (bytes_eq word) v.table.classes ≡ false) (sym same) fresh
 
-    pub class_kept : IsDraft (record s.table { classes = with_word s.table.classes word }) s.nodes
-    class_kept = class_draft s.table s.nodes draft word is new_class few_classes
+    pub class_kept : IsKept (record s.table { classes = with_word s.table.classes word }) s.nodes hs
+    class_kept = class_keeps s.table s.nodes kept.draft word is new_class few_classes hs kept.same
 
     pub class_made : AddsClass d (record { table = record s.table { classes = with_word s.table.classes word }; nodes = s.nodes }) word
     class_made =
         let new : Unfinished = record { table = record s.table { classes = with_word s.table.classes word }; nodes = s.nodes } in
-        subst (λ v. AddsClass v new word) same (class_adds s.table s.nodes draft word is new_class few_classes)
+        subst (λ v. AddsClass v new word) same (class_adds s.table s.nodes kept.draft word is new_class few_classes)
 
   module _ (word : List ℕ) (is : IsName word) (room : length d.table.names + 1 < 2 ^ 32) where
     few_names : length s.table.names + 1 < 2 ^ 32
     few_names = subst (λ v. length v.table.names + 1 < 2 ^ 32) (sym same) room
 
-    pub name_kept : IsDraft (record s.table { names = with_word s.table.names word }) s.nodes
-    name_kept = name_draft s.table s.nodes draft word is few_names
+    pub name_kept : IsKept (record s.table { names = with_word s.table.names word }) s.nodes hs
+    name_kept = name_keeps s.table s.nodes kept.draft word is few_names hs kept.same
 
     pub name_made : AddsName d (record { table = record s.table { names = with_word s.table.names word }; nodes = s.nodes }) word
     name_made =
         let new : Unfinished = record { table = record s.table { names = with_word s.table.names word }; nodes = s.nodes } in
-        subst (λ v. AddsName v new word) same (name_adds s.table s.nodes draft word is few_names)
+        subst (λ v. AddsName v new word) same (name_adds s.table s.nodes kept.draft word is few_names)
 
   module _ (b : NodeId) (has : HasBlock IsRootBlock (in_hand d)) (last : last_nodes 1 d.nodes ≡ b ∷ last_nodes 0 d.nodes) where
     has' : HasBlock IsRootBlock (in_hand s)
@@ -323,13 +334,13 @@ module _ (s d : Unfinished) (same : s ≡ d) (draft : IsDraft s.table s.nodes) w
     last' : last_nodes 1 s.nodes ≡ b ∷ last_nodes 0 s.nodes
     last' = subst (λ v. last_nodes 1 v.nodes ≡ b ∷ last_nodes 0 v.nodes) (sym same) last
 
-    pub setup_kept : IsDraft (record s.table { setup = Some b }) (take (length s.nodes - 1) s.nodes)
-    setup_kept = setup_draft s.table s.nodes draft b has' last'
+    pub setup_kept : IsKept (record s.table { setup = Some b }) (take (length s.nodes - 1) s.nodes) (take (length hs - 1) hs)
+    setup_kept = setup_keeps s.table s.nodes kept.draft b has' last' hs kept.same
 
     pub setup_made : AddsSetup d (record { table = record s.table { setup = Some b }; nodes = take (length s.nodes - 1) s.nodes })
     setup_made =
         let new : Unfinished = record { table = record s.table { setup = Some b }; nodes = take (length s.nodes - 1) s.nodes } in
-        subst (λ v. AddsSetup v new) same (setup_adds s.table s.nodes draft b has' last')
+        subst (λ v. AddsSetup v new) same (setup_adds s.table s.nodes kept.draft b has' last')
 
     module _ (name : NameId) (known : name.0 < length d.table.names) (room : length d.table.scripts < SCRIPTS_MAX) where
       known' : name.0 < length s.table.names
@@ -338,10 +349,10 @@ module _ (s d : Unfinished) (same : s ≡ d) (draft : IsDraft s.table s.nodes) w
       few_scripts : length s.table.scripts < SCRIPTS_MAX
       few_scripts = subst (λ v. length v.table.scripts < SCRIPTS_MAX) (sym same) room
 
-      pub script_kept : IsDraft (record s.table { scripts = s.table.scripts ++ (name, b) ∷ [] }) (take (length s.nodes - 1) s.nodes)
-      script_kept = script_draft s.table s.nodes draft b has' last' name known' few_scripts
+      pub script_kept : IsKept (record s.table { scripts = s.table.scripts ++ (name, b) ∷ [] }) (take (length s.nodes - 1) s.nodes) (take (length hs - 1) hs)
+      script_kept = script_keeps s.table s.nodes kept.draft b has' last' name known' few_scripts hs kept.same
 
       pub script_made : AddsScript d (record { table = record s.table { scripts = s.table.scripts ++ (name, b) ∷ [] }; nodes = take (length s.nodes - 1) s.nodes }) name.0
       script_made =
           let new : Unfinished = record { table = record s.table { scripts = s.table.scripts ++ (name, b) ∷ [] }; nodes = take (length s.nodes - 1) s.nodes } in
-          subst (λ v. AddsScript v new name.0) same (script_adds s.table s.nodes draft b has' last' name known' few_scripts)
+          subst (λ v. AddsScript v new name.0) same (script_adds s.table s.nodes kept.draft b has' last' name known' few_scripts)

@@ -6,10 +6,10 @@ use Rattle.hb_types.specs.declared.ids.NodeId.{NodeId}
 use Rattle.hb_tree.specs.declared.node.Placed.{Placed}
 use Rattle.hb_tree.specs.Table.{Table}
 use Rattle.hb_tree.specs.TreeAt.{tree_at, tree_of}
-use Rattle.hb_draft.specs.Kept.{IsDraft}
+use Rattle.hb_draft.specs.Kept.{IsDraft, IsKept, heights_of, heights_after}
 use Rattle.hb_draft.specs.Put.{IsOver, CanPut, PutsNode, with_node}
 use Rattle.hb_draft.specs.Unfinished.{Unfinished, KeepsRoots, in_hand, trees_of}
-use Rattle.hb_draft.proofs.Append.{appended, same_texts, IsNext, draft-next, hand-next, roots-next}
+use Rattle.hb_draft.proofs.Append.{appended, same_texts, IsNext, kept-next, hand-next, roots-next}
 
 -- the nodes in hand after the next one took its parts
 abbrev pub hand_after : Table → List NodeId → ℕ → List NodeId
@@ -33,8 +33,8 @@ module _ (t : Table) (ids : List NodeId) (p : Placed) (count : ℕ) (draft : IsD
     few_types = omega (arith, draft.program.limits.types);
   }
 
-  draft_plain : IsDraft (with_node t p) (hand_after t ids count)
-  draft_plain = subst (λ (v : Table). IsDraft v (hand_after t ids count)) (plain t p) (draft-next t ids t.texts (same_texts t draft.program) [] count [] [] p draft over_plain next_plain)
+  kept_plain : (hs : List ℕ) → hs ≡ heights_of t ids → IsKept (with_node t p) (hand_after t ids count) (heights_after count hs)
+  kept_plain hs same = subst (λ (v : Table). IsKept v (hand_after t ids count) (heights_after count hs)) (plain t p) (kept-next t ids t.texts (same_texts t draft.program) [] count [] [] p draft over_plain hs same next_plain)
 
   puts_plain : PutsNode (record { table = t; nodes = ids }) (record { table = with_node t p; nodes = hand_after t ids count }) p count
   unfolding in_hand
@@ -44,11 +44,11 @@ module _ (t : Table) (ids : List NodeId) (p : Placed) (count : ℕ) (draft : IsD
     roots = subst (λ (v : Table). KeepsRoots t v) (plain t p) (roots-next t ids t.texts (same_texts t draft.program) [] count [] [] p draft);
   }
 
-module _ (s d : Unfinished) (same : s ≡ d) (draft : IsDraft s.table s.nodes) (p : Placed) (count : ℕ) (can : CanPut d p count) where
-  pub put_kept : IsDraft (with_node s.table p) (hand_after s.table s.nodes count)
-  put_kept = draft_plain s.table s.nodes p count draft (subst (λ v. CanPut v p count) (sym same) can)
+module _ (s d : Unfinished) (same : s ≡ d) (hs : List ℕ) (kept : IsKept s.table s.nodes hs) (p : Placed) (count : ℕ) (can : CanPut d p count) where
+  pub put_kept : IsKept (with_node s.table p) (hand_after s.table s.nodes count) (heights_after count hs)
+  put_kept = kept_plain s.table s.nodes p count kept.draft (subst (λ v. CanPut v p count) (sym same) can) hs kept.same
 
   pub put_puts : PutsNode d (record { table = with_node s.table p; nodes = hand_after s.table s.nodes count }) p count
   put_puts =
       let new : Unfinished = record { table = with_node s.table p; nodes = hand_after s.table s.nodes count } in
-      subst (λ v. PutsNode v new p count) same (puts_plain s.table s.nodes p count draft (subst (λ v. CanPut v p count) (sym same) can))
+      subst (λ v. PutsNode v new p count) same (puts_plain s.table s.nodes p count kept.draft (subst (λ v. CanPut v p count) (sym same) can))

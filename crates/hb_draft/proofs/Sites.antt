@@ -1,8 +1,8 @@
 -- A definition with its body, and a declaration with its type.
-use Rattle.std.proofs.Common.{◌≡◌, ℕ, ◌<◌, ◌≤◌, List, [], ◌∷◌, ◌++◌, map, take, drop, length, length-append, Some, Bool, refl, sym, ap, ◌∙◌, subst, arith, add-zero, IsSomeAnd, option_map}
+use Rattle.std.proofs.Common.{◌≡◌, ℕ, ◌<◌, ◌≤◌, List, [], ◌∷◌, ◌++◌, drop, length, length-append, Some, Bool, refl, sym, ap, ◌∙◌, subst, arith, add-zero, IsSomeAnd, option_map}
 use Rattle.std.specs.Prelude.{slice_get}
 use Rattle.std.specs.List.{AllByRecursion}
-use Rattle.std.proofs.lemmas.List.{append-nil, length-map}
+use Rattle.std.proofs.lemmas.List.{append-nil}
 use Rattle.std.proofs.lemmas.Option.{none-some}
 use Rattle.hb_types.specs.declared.ids.NodeId.{NodeId}
 use Rattle.hb_types.specs.declared.ids.NameId.{NameId}
@@ -20,11 +20,11 @@ use Rattle.hb_tree.specs.TreeAt.{tree_at}
 use Rattle.hb_tree.specs.Program.{IsBodyIn, IsTypeIn, IsMethodTyIn, IsDefNode, IsDeclareNode}
 use Rattle.hb_tree.proofs.Trees.{id_of-tree_at}
 use Rattle.hb_tree.proofs.Growth.{tree_at-grown}
-use Rattle.hb_draft.specs.Kept.{IsDraft}
+use Rattle.hb_draft.specs.Kept.{IsDraft, IsKept, heights_of, heights_after}
 use Rattle.hb_draft.specs.Put.{IsOver, last_nodes}
 use Rattle.hb_draft.specs.Unfinished.{Unfinished, IsBlockPart, HasBlock, IsBodyBlock, AreParams, KeepsRoots, PutsDef, PutsDeclare, in_hand, trees_of}
 use Rattle.hb_draft.proofs.Lists.{slice_get-last, slice_get-single}
-use Rattle.hb_draft.proofs.Append.{appended, appended-grows, founded, same_texts, has_parts, block_part, IsNext, draft-next, hand-next, roots-next}
+use Rattle.hb_draft.proofs.Append.{appended, appended-grows, founded, same_texts, has_parts, block_part, IsNext, kept-next, hand-next, roots-next}
 use Rattle.hb_draft.proofs.Puts.{hand_after}
 use Rattle.hb_draft.proofs.Hands.{length-hand, next-hand, last_none, last_one}
 use Rattle.hb_draft.proofs.Steps.{placed_at}
@@ -61,23 +61,6 @@ pub record CanDef (d : Unfinished) (class m : ℕ) (b : Body) (xs : List ℕ) : 
   pub params : AreParams d.table xs
   pub has : HasBlock (IsBodyBlock xs) (in_hand d)
   pub last : last_nodes 1 d.nodes ≡ b.block ∷ last_nodes 0 d.nodes
-
-pub can_def : (d : Unfinished) (class m : ℕ) (params list : List NameId) (id : ℕ) (block : NodeId) → length d.table.nodes < 65535 → class < length d.table.classes → m < length d.table.names
-    → id ≡ length d.table.nodes → take (length params) list ≡ params → length list ≡ 4 → AreParams d.table (map (λ x. x.0) params)
-    → HasBlock (IsBodyBlock (map (λ x. x.0) params)) (in_hand d) → last_nodes 1 d.nodes ≡ block ∷ last_nodes 0 d.nodes
-    → CanDef d class m (record { def = record { 0 = id }; block = block; count = length params; params = list }) (map (λ x. x.0) params)
-can_def d class m params list id block room known_class known_name itself named places known has last = record {
-  room = room;
-  known_class = known_class;
-  known_name = known_name;
-  itself = itself;
-  places = places;
-  few = omega (arith, known.few, length-map params (λ x. x.0));
-  named = ap (map (λ x. x.0)) named;
-  params = known;
-  has = has;
-  last = last;
-}
 
 module _ (t : Table) (ids : List NodeId) (draft : IsDraft t ids) (place : ℕ × ℕ) (class : ClassId) (m : NameId) (b : Body) (xs : List ℕ) (can : CanDef (record { table = t; nodes = ids }) class.0 m.0 b xs) where
   abbrev n : Node
@@ -142,8 +125,8 @@ module _ (t : Table) (ids : List NodeId) (draft : IsDraft t ids) (place : ℕ ×
     few_types = omega (arith, draft.program.limits.types);
   }
 
-  pub def_draft : IsDraft (with_body t b p) (hand_after t ids 1)
-  def_draft = subst (λ (v : Table). IsDraft v (hand_after t ids 1)) plain (draft-next t ids t.texts (same_texts t draft.program) [] 1 (b ∷ []) [] p draft over next)
+  def_keeps : (hs : List ℕ) → hs ≡ heights_of t ids → IsKept (with_body t b p) (hand_after t ids 1) (heights_after 1 hs)
+  def_keeps hs same = subst (λ (v : Table). IsKept v (hand_after t ids 1) (heights_after 1 hs)) plain (kept-next t ids t.texts (same_texts t draft.program) [] 1 (b ∷ []) [] p draft over hs same next)
 
   pub def_puts : PutsDef old (record { table = with_body t b p; nodes = hand_after t ids 1 }) place class.0 m.0 xs
   unfolding in_hand
@@ -169,20 +152,20 @@ module _ (t : Table) (ids : List NodeId) (draft : IsDraft t ids) (place : ℕ ×
   }
 
 -- the same, whatever the draft is called
-module _ (s d : Unfinished) (same : s ≡ d) (draft : IsDraft s.table s.nodes) (place : ℕ × ℕ) (class : ClassId) (m : NameId) (b : Body) (xs : List ℕ) (can : CanDef d class.0 m.0 b xs) where
+module _ (s d : Unfinished) (same : s ≡ d) (hs : List ℕ) (kept : IsKept s.table s.nodes hs) (place : ℕ × ℕ) (class : ClassId) (m : NameId) (b : Body) (xs : List ℕ) (can : CanDef d class.0 m.0 b xs) where
   abbrev pub def_node : Placed
   def_node = placed_at (node.Def (method.Named class m) (record { 0 = length s.table.bodies })) place
 
   can' : CanDef s class.0 m.0 b xs
   can' = subst (λ v. CanDef v class.0 m.0 b xs) (sym same) can
 
-  pub def_kept : IsDraft (with_body s.table b def_node) (hand_after s.table s.nodes 1)
-  def_kept = def_draft s.table s.nodes draft place class m b xs can'
+  pub def_kept : IsKept (with_body s.table b def_node) (hand_after s.table s.nodes 1) (heights_after 1 hs)
+  def_kept = def_keeps s.table s.nodes kept.draft place class m b xs can' hs kept.same
 
   pub def_made : PutsDef d (record { table = with_body s.table b def_node; nodes = hand_after s.table s.nodes 1 }) place class.0 m.0 xs
   def_made =
       let new : Unfinished = record { table = with_body s.table b def_node; nodes = hand_after s.table s.nodes 1 } in
-      subst (λ v. PutsDef v new place class.0 m.0 xs) same (def_puts s.table s.nodes draft place class m b xs can')
+      subst (λ v. PutsDef v new place class.0 m.0 xs) same (def_puts s.table s.nodes kept.draft place class m b xs can')
 
 -- the table with a declaration more, and its type
 abbrev pub with_type : Table → MethodTy × NodeId → Placed → Table
@@ -246,8 +229,8 @@ module _ (t : Table) (ids : List NodeId) (draft : IsDraft t ids) (place : ℕ ×
     few_types = omega (arith, can.few);
   }
 
-  pub declare_draft : IsDraft (with_type t y dp) (hand_after t ids 0)
-  declare_draft = subst (λ (v : Table). IsDraft v (hand_after t ids 0)) type_plain (draft-next t ids t.texts (same_texts t draft.program) [] 0 [] (y ∷ []) dp draft type_over type_next)
+  declare_keeps : (hs : List ℕ) → hs ≡ heights_of t ids → IsKept (with_type t y dp) (hand_after t ids 0) (heights_after 0 hs)
+  declare_keeps hs same = subst (λ (v : Table). IsKept v (hand_after t ids 0) (heights_after 0 hs)) type_plain (kept-next t ids t.texts (same_texts t draft.program) [] 0 [] (y ∷ []) dp draft type_over hs same type_next)
 
   pub declare_puts : PutsDeclare (record { table = t; nodes = ids }) (record { table = with_type t y dp; nodes = hand_after t ids 0 }) place class.0 m.0 ty asks
   unfolding in_hand
@@ -267,7 +250,7 @@ module _ (t : Table) (ids : List NodeId) (draft : IsDraft t ids) (place : ℕ ×
   }
 
 -- the same, whatever the draft is called
-module _ (s d : Unfinished) (same : s ≡ d) (draft : IsDraft s.table s.nodes) (place : ℕ × ℕ) (class : ClassId) (m : NameId) (ty : MethodTy) (asks : Bool) (can : CanDeclare d class.0 m.0 ty) where
+module _ (s d : Unfinished) (same : s ≡ d) (hs : List ℕ) (kept : IsKept s.table s.nodes hs) (place : ℕ × ℕ) (class : ClassId) (m : NameId) (ty : MethodTy) (asks : Bool) (can : CanDeclare d class.0 m.0 ty) where
   abbrev pub declare_node : Placed
   declare_node = placed_at (node.Declare (method.Named class m) (record { 0 = length s.table.types }) asks) place
 
@@ -277,10 +260,10 @@ module _ (s d : Unfinished) (same : s ≡ d) (draft : IsDraft s.table s.nodes) (
   can_declare : CanDeclare s class.0 m.0 ty
   can_declare = subst (λ v. CanDeclare v class.0 m.0 ty) (sym same) can
 
-  pub declare_kept : IsDraft (with_type s.table declared declare_node) (hand_after s.table s.nodes 0)
-  declare_kept = declare_draft s.table s.nodes draft place class m ty asks can_declare
+  pub declare_kept : IsKept (with_type s.table declared declare_node) (hand_after s.table s.nodes 0) (heights_after 0 hs)
+  declare_kept = declare_keeps s.table s.nodes kept.draft place class m ty asks can_declare hs kept.same
 
   pub declare_made : PutsDeclare d (record { table = with_type s.table declared declare_node; nodes = hand_after s.table s.nodes 0 }) place class.0 m.0 ty asks
   declare_made =
       let new : Unfinished = record { table = with_type s.table declared declare_node; nodes = hand_after s.table s.nodes 0 } in
-      subst (λ v. PutsDeclare v new place class.0 m.0 ty asks) same (declare_puts s.table s.nodes draft place class m ty asks can_declare)
+      subst (λ v. PutsDeclare v new place class.0 m.0 ty asks) same (declare_puts s.table s.nodes kept.draft place class m ty asks can_declare)

@@ -25,7 +25,7 @@ unfolding in_hand
 enough_nodes d n has = omega (arith, has.enough, length-hand d.table d.nodes)
 
 -- the trees on top, by the nodes there
-two_on_top : (d : Unfinished) (a b : NodeId) → 2 ≤ length d.nodes → last_nodes 2 d.nodes ≡ a ∷ last_nodes 1 d.nodes → last_nodes 1 d.nodes ≡ b ∷ last_nodes 0 d.nodes → in_hand d ≡ tree_at d.table b.0 ∷ tree_at d.table a.0 ∷ drop 2 (in_hand d)
+pub two_on_top : (d : Unfinished) (a b : NodeId) → 2 ≤ length d.nodes → last_nodes 2 d.nodes ≡ a ∷ last_nodes 1 d.nodes → last_nodes 1 d.nodes ≡ b ∷ last_nodes 0 d.nodes → in_hand d ≡ tree_at d.table b.0 ∷ tree_at d.table a.0 ∷ drop 2 (in_hand d)
 unfolding in_hand
 two_on_top d a b enough two one = next-hand d.table d.nodes 0 b (omega arith) one ∙ ap (λ ts. tree_at d.table b.0 ∷ ts) (next-hand d.table d.nodes 1 a enough two)
 

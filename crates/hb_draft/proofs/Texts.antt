@@ -10,12 +10,12 @@ use Rattle.hb_tree.specs.declared.node.Placed.{Placed}
 use Rattle.hb_tree.specs.Table.{Table}
 use Rattle.hb_tree.specs.Tree.{TText}
 use Rattle.hb_tree.specs.Nodes.{numbers_of}
-use Rattle.hb_draft.specs.Kept.{IsDraft}
+use Rattle.hb_draft.specs.Kept.{IsDraft, IsKept, heights_of, heights_after}
 use Rattle.hb_draft.specs.Put.{IsOver}
 use Rattle.hb_draft.specs.Unfinished.{Unfinished, KeepsRoots, PutsText, in_hand, trees_of}
 use Rattle.hb_draft.specs.Words.{with_word}
 use Rattle.hb_draft.proofs.WordLists.{with_word-begins, with_word-each, with_word-length}
-use Rattle.hb_draft.proofs.Append.{appended, AreTexts, IsNext, draft-next, hand-next, roots-next}
+use Rattle.hb_draft.proofs.Append.{appended, AreTexts, IsNext, kept-next, hand-next, roots-next}
 use Rattle.hb_draft.proofs.Puts.{hand_after}
 use Rattle.hb_draft.proofs.Hands.{last_none}
 use Rattle.hb_draft.proofs.Steps.{placed_at}
@@ -72,8 +72,8 @@ module _ (t : Table) (ids : List NodeId) (draft : IsDraft t ids) (place : ℕ ×
     few_types = omega (arith, draft.program.limits.types);
   }
 
-  text_draft : IsDraft (with_text t ts p) (hand_after t ids 0)
-  text_draft = subst (λ (v : Table). IsDraft v (hand_after t ids 0)) plain (draft-next t ids ts texts [] 0 [] [] p draft over next)
+  text_keeps : (hs : List ℕ) → hs ≡ heights_of t ids → IsKept (with_text t ts p) (hand_after t ids 0) (heights_after 0 hs)
+  text_keeps hs same = subst (λ (v : Table). IsKept v (hand_after t ids 0) (heights_after 0 hs)) plain (kept-next t ids ts texts [] 0 [] [] p draft over hs same next)
 
   text_puts : PutsText (record { table = t; nodes = ids }) (record { table = with_text t ts p; nodes = hand_after t ids 0 }) place value
   unfolding in_hand
@@ -93,7 +93,7 @@ module _ (t : Table) (ids : List NodeId) (draft : IsDraft t ids) (place : ℕ ×
   }
 
 -- the same, whatever the draft is called
-module _ (s d : Unfinished) (same : s ≡ d) (draft : IsDraft s.table s.nodes) (place : ℕ × ℕ) (value : List ℕ) (k : ℕ)
+module _ (s d : Unfinished) (same : s ≡ d) (hs : List ℕ) (kept : IsKept s.table s.nodes hs) (place : ℕ × ℕ) (value : List ℕ) (k : ℕ)
     (room : length d.table.nodes < 65535) (is : IsText value) (stands : slice_get (with_word s.table.texts value) k ≡ Some value) where
   can : CanText s value k
   can = record { room = subst (λ v. length v.table.nodes < 65535) (sym same) room; plain = is; stands = stands }
@@ -101,14 +101,20 @@ module _ (s d : Unfinished) (same : s ≡ d) (draft : IsDraft s.table s.nodes) (
   abbrev pub text_node : Placed
   text_node = placed_at (node.Text (record { 0 = k })) place
 
-  pub text_kept : IsDraft (with_text s.table (with_word s.table.texts value) text_node) (hand_after s.table s.nodes 0)
-  text_kept = text_draft s.table s.nodes draft place value k can
+  pub text_kept : IsKept (with_text s.table (with_word s.table.texts value) text_node) (hand_after s.table s.nodes 0) (heights_after 0 hs)
+  text_kept = text_keeps s.table s.nodes kept.draft place value k can hs kept.same
 
   pub text_made : PutsText d (record { table = with_text s.table (with_word s.table.texts value) text_node; nodes = hand_after s.table s.nodes 0 }) place value
   text_made =
       let new : Unfinished = record { table = with_text s.table (with_word s.table.texts value) text_node; nodes = hand_after s.table s.nodes 0 } in
-      subst (λ v. PutsText v new place value) same (text_puts s.table s.nodes draft place value k can)
+      subst (λ v. PutsText v new place value) same (text_puts s.table s.nodes kept.draft place value k can)
 
   -- so its number is small
   pub text_small : k < 65536
-  text_small = omega (arith, slice_get_within (with_word s.table.texts value) k value stands, with_word-length s.table.texts value, draft.few_texts, draft.program.limits.nodes)
+  text_small = omega (arith, slice_get_within (with_word s.table.texts value) k value stands, with_word-length s.table.texts value, kept.draft.few_texts, kept.draft.program.limits.nodes)
+
+  pub text_hand : in_hand (record { table = with_text s.table (with_word s.table.texts value) text_node; nodes = hand_after s.table s.nodes 0 }) ≡ TText (length d.table.nodes) k ∷ in_hand d
+  unfolding text_puts
+  text_hand =
+      let new : Unfinished = record { table = with_text s.table (with_word s.table.texts value) text_node; nodes = hand_after s.table s.nodes 0 } in
+      subst (λ v. in_hand new ≡ TText (length v.table.nodes) k ∷ in_hand v) same (text_puts s.table s.nodes kept.draft place value k can).hand

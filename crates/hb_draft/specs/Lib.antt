@@ -2,3 +2,4 @@ pub mod Words
 pub mod Unfinished
 pub mod Kept
 pub mod Put
+pub mod Made

@@ -10,7 +10,7 @@ use Rattle.hb_tree.specs.declared.parts.Body.{Body}
 use Rattle.hb_tree.specs.declared.limits.TheConstants.{HEIGHT_MAX, NODES_IN_BODY_MAX, CALLS_IN_BODY_MAX, VARIABLES_MAX}
 use Rattle.hb_types.specs.declared.types.TheConstants.{PARAMS_MAX}
 use Rattle.hb_tree.specs.Table.{Table}
-use Rattle.hb_tree.specs.Tree.{Tree, TText, TBinary, TIf, TWhile, TCall, TDef, TDeclare, TBlock, Forest, NoTree, Trees, IsExpr, IsBlock, id_of}
+use Rattle.hb_tree.specs.Tree.{Tree, TText, TBinary, TIf, TWhile, TCall, TDef, TDefComputed, TDeclare, TDeclareComputed, TBlock, Forest, NoTree, Trees, IsExpr, IsBlock, id_of}
 use Rattle.hb_tree.specs.Counts.{height, nodes_in, calls_in, variables_in}
 use Rattle.hb_tree.specs.Nodes.{params_of}
 use Rattle.hb_tree.specs.TreeAt.{tree_at}
@@ -66,6 +66,11 @@ HasTurn _ = ⊥
 abbrev pub HasBlock : (Tree → Type 0) → List Tree → Type 0
 HasBlock P [] = ⊥
 HasBlock P (b ∷ rest) = IsBlock b × P b
+
+-- the last one in hand is a block, of which this holds, and below it lies an expression, the computed name of a method
+abbrev pub HasNameAndBlock : (Tree → Type 0) → List Tree → Type 0
+HasNameAndBlock P (b ∷ e ∷ rest) = IsExprPart e × IsBlock b × P b
+HasNameAndBlock P _ = ⊥
 
 -- the block of a body with these parameters: it may be part of a node, and keeps the limits of a body
 pub record IsBodyBlock (params : List ℕ) (b : Tree) : Type 0 where
@@ -182,9 +187,27 @@ pub record PutsDef (old new : Unfinished) (place : ℕ × ℕ) (class m : ℕ) (
   pub gives : IsBodyOf (length old.table.nodes) (id_of block) params body
   pub table : AddsNode old.table new.table place (old.table.bodies ++ body ∷ []) old.table.types
 
+-- the next node, a definition's whose name is computed, with its body
+pub record PutsComputedDef (old new : Unfinished) (place : ℕ × ℕ) (class : ℕ) (params : List ℕ) : Type 0 where
+  pub block : Tree
+  pub name : Tree
+  pub rest : List Tree
+  pub was : in_hand old ≡ block ∷ name ∷ rest
+  pub hand : in_hand new ≡ TDefComputed (length old.table.nodes) class name (length old.table.bodies) block ∷ rest
+  pub texts : new.table.texts ≡ old.table.texts
+  pub body : Body
+  pub gives : IsBodyOf (length old.table.nodes) (id_of block) params body
+  pub table : AddsNode old.table new.table place (old.table.bodies ++ body ∷ []) old.table.types
+
 -- the next node, a declaration's, with its type
 pub record PutsDeclare (old new : Unfinished) (place : ℕ × ℕ) (class m : ℕ) (ty : MethodTy) (asks : Bool) : Type 0 where
   pub hand : in_hand new ≡ TDeclare (length old.table.nodes) class m (length old.table.types) asks ∷ in_hand old
+  pub texts : new.table.texts ≡ old.table.texts
+  pub table : AddsNode old.table new.table place old.table.bodies (old.table.types ++ (ty, record { 0 = length old.table.nodes }) ∷ [])
+
+-- the next node, a declaration's whose name is computed, with its type
+pub record PutsComputedDeclare (old new : Unfinished) (place : ℕ × ℕ) (class : ℕ) (ty : MethodTy) (asks : Bool) : Type 0 where
+  pub hand : in_hand new ≡ unary_over (λ id e. TDeclareComputed id class e (length old.table.types) asks) (length old.table.nodes) (in_hand old)
   pub texts : new.table.texts ≡ old.table.texts
   pub table : AddsNode old.table new.table place old.table.bodies (old.table.types ++ (ty, record { 0 = length old.table.nodes }) ∷ [])
 

@@ -2,11 +2,12 @@
 
 ghost use Rattle.std.specs.Prelude.{◌≡◌, false, pos, ◌≤ℤ◌, ◌+◌, ◌-◌, ◌<◌, ◌≤◌, ◌^◌, [], ◌∷◌, ◌++◌, None, reverse, OnErr, List, length, map, slice_get, position, Some, bytes_eq, option_map, IfOk, OnOk, take};
 ghost use Rattle.std.specs.List.{list_any};
-ghost use Rattle.hb_tree.specs.Tree.{TNil, TTrue, TFalse, TSelf, TInt, TVar, TNew, TAssign, TPrint, TToStr, TNot};
+ghost use Rattle.hb_tree.specs.Tree.{TNil, TSelf, TInt, TVar, TNew, TAssign, TPrint, TToStr, TNot};
+ghost use Rattle.hb_tree.specs.Counts.{height};
 ghost use Rattle.hb_tree.specs.Spelling.{IsClassName, IsName, IsText};
 ghost use Rattle.hb_tree.specs.Program.{IsMethodTyIn};
 
-use crate::pieces::{arg_list, last_of, param_list, placed, push_node};
+use crate::pieces::{arg_list, body_of, last_of, placed, push_node};
 use crate::words::Words;
 use hb_tree::limits::{ARGUMENTS_MAX, CLASSES_MAX, NODES_MAX, SCRIPTS_MAX, TYPES_MAX};
 use hb_tree::node::{Method, Node, Op, Placed};
@@ -37,6 +38,8 @@ pub struct Draft {
     setup: Option<NodeId>,
     scripts: Vec<(NameId, NodeId)>,
     hand: Vec<NodeId>,
+    // the heights of the trees in hand
+    heights: Vec<u16>,
 }
 
 impl Model for Draft {
@@ -44,21 +47,23 @@ impl Model for Draft {
 
     ghost Value = { Unfinished };
 
-    ghost use Rattle.hb_draft.specs.Kept.{IsDraft};
+    ghost use Rattle.hb_draft.specs.Kept.{IsKept};
 
     ghost view = { λ d. record { table = record { classes = d.classes; names = d.names; texts = d.texts; nodes = d.nodes.items; items = d.items.items; bodies = d.bodies.items; types = d.types.items; setup = d.setup; scripts = d.scripts.items }; nodes = d.hand.items } };
 
-    ghost invariant = { λ d. IsDraft (record { classes = d.classes; names = d.names; texts = d.texts; nodes = d.nodes.items; items = d.items.items; bodies = d.bodies.items; types = d.types.items; setup = d.setup; scripts = d.scripts.items }) d.hand.items };
+    ghost invariant = { λ d. IsKept (record { classes = d.classes; names = d.names; texts = d.texts; nodes = d.nodes.items; items = d.items.items; bodies = d.bodies.items; types = d.types.items; setup = d.setup; scripts = d.scripts.items }) d.hand.items d.heights.items };
 }
 
 impl Draft {
     ghost use Rattle.hb_draft.specs.Put.{CanPut, PutsNode, last_nodes};
-    ghost use Rattle.hb_draft.specs.Unfinished.{in_hand, AddsClass, AddsName, HasExprs, HasBlock, IsBodyBlock, IsRootBlock, AreParams, Puts, PutsText, PutsDef, PutsDeclare, AddsSetup, AddsScript, HasTurn, HasBranches, leaf_over, unary_over, binary_over, if_over, while_over, call_over, block_over};
+    ghost use Rattle.hb_draft.specs.Made.{made_of, made_nothing, word_number, boolean_tree, with_class, with_name, with_node, with_text, with_def, with_computed_def, with_declare, with_computed_declare, with_setup, with_script};
+    ghost use Rattle.hb_draft.specs.Unfinished.{in_hand, AddsClass, AddsName, HasExprs, HasBlock, HasNameAndBlock, IsBodyBlock, IsRootBlock, AreParams, Puts, PutsText, PutsDef, PutsComputedDef, PutsDeclare, PutsComputedDeclare, AddsSetup, AddsScript, HasTurn, HasBranches, leaf_over, unary_over, binary_over, if_over, while_over, call_over, block_over};
 
     /// Nothing is declared yet, and nothing is in hand.
     pub fn new(alloc: Global) -> Draft
         ensures table { result.table ≡ record { classes = []; names = []; texts = []; nodes = []; items = []; bodies = []; types = []; setup = None; scripts = [] } }
         ensures hand { in_hand result ≡ [] }
+        ensures made { made_of result ≡ made_nothing }
     {
         Draft {
             alloc,
@@ -72,6 +77,7 @@ impl Draft {
             setup: None,
             scripts: Vec::new(alloc),
             hand: Vec::new(alloc),
+            heights: Vec::new(alloc),
         }
     }
 
@@ -90,6 +96,7 @@ impl Draft {
         requires room { length self.old.table.classes < CLASSES_MAX }
         ensures class { OnOk result (AddsClass self.old self.new name.now) }
         ensures number { IfOk result (λ c. c.0 ≡ length self.old.table.classes) }
+        ensures made { OnOk result (made_of self.new ≡ with_class (made_of self.old) name.now) }
     {
         let i = self.classes.number(name)?;
         Ok(ClassId(i as u16))
@@ -101,6 +108,8 @@ impl Draft {
         requires room { length self.old.table.names + 1 < 2 ^ 32 }
         ensures name { OnOk result (AddsName self.old self.new name.now) }
         ensures number { IfOk result (λ x. slice_get self.new.table.names x.0 ≡ Some name.now) }
+        ensures index { IfOk result (λ x. x.0 ≡ word_number self.old.table.names name.now) }
+        ensures made { OnOk result (made_of self.new ≡ with_name (made_of self.old) name.now) }
     {
         let i = self.names.number(name)?;
         Ok(NameId(i as u32))
@@ -141,34 +150,38 @@ impl Draft {
         self.scripts.len()
     }
 
+    /// The height of the tree that lies below `below` others in hand.
+    pub fn height(&self, below: usize) -> usize
+        requires { below < length (in_hand self.now) }
+        ensures { option_map height (slice_get (in_hand self.now) below) ≡ Some result }
+    {
+        usize::from(self.heights[self.heights.len() - 1 - below])
+    }
+
     /// `nil`.
     pub fn nil(&mut self, place: (u32, u32)) -> Result<(), AllocError>
         requires room { length self.old.table.nodes < NODES_MAX }
-        ensures { OnOk result (Puts self.old self.new place (leaf_over TNil)) }
+        ensures put { OnOk result (Puts self.old self.new place (leaf_over TNil)) }
+        ensures made { OnOk result (made_of self.new ≡ with_node (made_of self.old) place (leaf_over TNil)) }
     {
         self.put(placed(Node::Nil, place), 0)
     }
 
-    /// `true`.
-    pub fn yes(&mut self, place: (u32, u32)) -> Result<(), AllocError>
+    /// `true` or `false`.
+    pub fn boolean(&mut self, value: bool, place: (u32, u32)) -> Result<(), AllocError>
         requires room { length self.old.table.nodes < NODES_MAX }
-        ensures { OnOk result (Puts self.old self.new place (leaf_over TTrue)) }
+        ensures put { OnOk result (Puts self.old self.new place (leaf_over (boolean_tree value))) }
+        ensures made { OnOk result (made_of self.new ≡ with_node (made_of self.old) place (leaf_over (boolean_tree value))) }
     {
-        self.put(placed(Node::True, place), 0)
-    }
-
-    /// `false`.
-    pub fn no(&mut self, place: (u32, u32)) -> Result<(), AllocError>
-        requires room { length self.old.table.nodes < NODES_MAX }
-        ensures { OnOk result (Puts self.old self.new place (leaf_over TFalse)) }
-    {
-        self.put(placed(Node::False, place), 0)
+        let node = if value { Node::True } else { Node::False };
+        self.put(placed(node, place), 0)
     }
 
     /// `self`.
     pub fn self_ref(&mut self, place: (u32, u32)) -> Result<(), AllocError>
         requires room { length self.old.table.nodes < NODES_MAX }
-        ensures { OnOk result (Puts self.old self.new place (leaf_over TSelf)) }
+        ensures put { OnOk result (Puts self.old self.new place (leaf_over TSelf)) }
+        ensures made { OnOk result (made_of self.new ≡ with_node (made_of self.old) place (leaf_over TSelf)) }
     {
         self.put(placed(Node::SelfRef, place), 0)
     }
@@ -177,7 +190,8 @@ impl Draft {
     pub fn int(&mut self, value: i64, place: (u32, u32)) -> Result<(), AllocError>
         requires value { pos 0 ≤ℤ value }
         requires room { length self.old.table.nodes < NODES_MAX }
-        ensures { OnOk result (Puts self.old self.new place (leaf_over (λ id. TInt id value))) }
+        ensures put { OnOk result (Puts self.old self.new place (leaf_over (λ id. TInt id value))) }
+        ensures made { OnOk result (made_of self.new ≡ with_node (made_of self.old) place (leaf_over (λ id. TInt id value))) }
     {
         self.put(placed(Node::Int(value), place), 0)
     }
@@ -186,12 +200,19 @@ impl Draft {
     pub fn text(&mut self, value: &[u8], place: (u32, u32)) -> Result<(), AllocError>
         requires value { IsText value.now }
         requires room { length self.old.table.nodes < NODES_MAX }
-        ensures { OnOk result (PutsText self.old self.new place value.now) }
+        ensures put { OnOk result (PutsText self.old self.new place value.now) }
+        ensures made { OnOk result (made_of self.new ≡ with_text (made_of self.old) place value.now) }
     {
         let count = self.texts.len();
         let i = self.texts.number(value)?;
         let node = Node::Text(TextId(i as u16));
-        match push_node(&mut self.nodes, &mut self.hand, placed(node, place), 0) {
+        match push_node(
+            &mut self.nodes,
+            &mut self.hand,
+            &mut self.heights,
+            placed(node, place),
+            0,
+        ) {
             Ok(()) => Ok(()),
             Err(full) => {
                 self.texts.truncate(count);
@@ -204,7 +225,8 @@ impl Draft {
     pub fn var(&mut self, name: NameId, place: (u32, u32)) -> Result<(), AllocError>
         requires name { name.0 < length self.old.table.names }
         requires room { length self.old.table.nodes < NODES_MAX }
-        ensures { OnOk result (Puts self.old self.new place (leaf_over (λ id. TVar id name.0))) }
+        ensures put { OnOk result (Puts self.old self.new place (leaf_over (λ id. TVar id name.0))) }
+        ensures made { OnOk result (made_of self.new ≡ with_node (made_of self.old) place (leaf_over (λ id. TVar id name.0))) }
     {
         self.put(placed(Node::Var(name), place), 0)
     }
@@ -213,7 +235,8 @@ impl Draft {
     pub fn new_object(&mut self, class: ClassId, place: (u32, u32)) -> Result<(), AllocError>
         requires class { class.0 < length self.old.table.classes }
         requires room { length self.old.table.nodes < NODES_MAX }
-        ensures { OnOk result (Puts self.old self.new place (leaf_over (λ id. TNew id class.0))) }
+        ensures put { OnOk result (Puts self.old self.new place (leaf_over (λ id. TNew id class.0))) }
+        ensures made { OnOk result (made_of self.new ≡ with_node (made_of self.old) place (leaf_over (λ id. TNew id class.0))) }
     {
         self.put(placed(Node::New(class), place), 0)
     }
@@ -222,7 +245,8 @@ impl Draft {
     pub fn print(&mut self, place: (u32, u32)) -> Result<(), AllocError>
         requires parts { HasExprs 1 (in_hand self.old) }
         requires room { length self.old.table.nodes < NODES_MAX }
-        ensures { OnOk result (Puts self.old self.new place (unary_over TPrint)) }
+        ensures put { OnOk result (Puts self.old self.new place (unary_over TPrint)) }
+        ensures made { OnOk result (made_of self.new ≡ with_node (made_of self.old) place (unary_over TPrint)) }
     {
         let e = self.on_top(0);
         self.put(placed(Node::Print(e), place), 1)
@@ -232,7 +256,8 @@ impl Draft {
     pub fn to_str(&mut self, place: (u32, u32)) -> Result<(), AllocError>
         requires parts { HasExprs 1 (in_hand self.old) }
         requires room { length self.old.table.nodes < NODES_MAX }
-        ensures { OnOk result (Puts self.old self.new place (unary_over TToStr)) }
+        ensures put { OnOk result (Puts self.old self.new place (unary_over TToStr)) }
+        ensures made { OnOk result (made_of self.new ≡ with_node (made_of self.old) place (unary_over TToStr)) }
     {
         let e = self.on_top(0);
         self.put(placed(Node::ToStr(e), place), 1)
@@ -242,7 +267,8 @@ impl Draft {
     pub fn not(&mut self, place: (u32, u32)) -> Result<(), AllocError>
         requires parts { HasExprs 1 (in_hand self.old) }
         requires room { length self.old.table.nodes < NODES_MAX }
-        ensures { OnOk result (Puts self.old self.new place (unary_over TNot)) }
+        ensures put { OnOk result (Puts self.old self.new place (unary_over TNot)) }
+        ensures made { OnOk result (made_of self.new ≡ with_node (made_of self.old) place (unary_over TNot)) }
     {
         let e = self.on_top(0);
         self.put(placed(Node::Not(e), place), 1)
@@ -253,27 +279,30 @@ impl Draft {
         requires parts { HasExprs 1 (in_hand self.old) }
         requires name { name.0 < length self.old.table.names }
         requires room { length self.old.table.nodes < NODES_MAX }
-        ensures { OnOk result (Puts self.old self.new place (unary_over (λ id e. TAssign id name.0 e))) }
+        ensures put { OnOk result (Puts self.old self.new place (unary_over (λ id e. TAssign id name.0 e))) }
+        ensures made { OnOk result (made_of self.new ≡ with_node (made_of self.old) place (unary_over (λ id e. TAssign id name.0 e))) }
     {
         let e = self.on_top(0);
         self.put(placed(Node::Assign(name, e), place), 1)
     }
 
     /// A choice by the condition that lies below the last two in hand, its two blocks.
-    pub fn choice(&mut self, place: (u32, u32)) -> Result<(), AllocError>
+    pub fn if_else(&mut self, place: (u32, u32)) -> Result<(), AllocError>
         requires parts { HasBranches (in_hand self.old) }
         requires room { length self.old.table.nodes < NODES_MAX }
-        ensures { OnOk result (Puts self.old self.new place if_over) }
+        ensures put { OnOk result (Puts self.old self.new place if_over) }
+        ensures made { OnOk result (made_of self.new ≡ with_node (made_of self.old) place if_over) }
     {
         let (condition, then, other) = (self.on_top(2), self.on_top(1), self.on_top(0));
         self.put(placed(Node::If(condition, then, other), place), 3)
     }
 
     /// A loop over the last one in hand, a block, by the condition below it.
-    pub fn repeat(&mut self, place: (u32, u32)) -> Result<(), AllocError>
+    pub fn while_loop(&mut self, place: (u32, u32)) -> Result<(), AllocError>
         requires parts { HasTurn (in_hand self.old) }
         requires room { length self.old.table.nodes < NODES_MAX }
-        ensures { OnOk result (Puts self.old self.new place while_over) }
+        ensures put { OnOk result (Puts self.old self.new place while_over) }
+        ensures made { OnOk result (made_of self.new ≡ with_node (made_of self.old) place while_over) }
     {
         let (condition, block) = (self.on_top(1), self.on_top(0));
         self.put(placed(Node::While(condition, block), place), 2)
@@ -283,7 +312,8 @@ impl Draft {
     pub fn binary(&mut self, op: Op, place: (u32, u32)) -> Result<(), AllocError>
         requires parts { HasExprs 2 (in_hand self.old) }
         requires room { length self.old.table.nodes < NODES_MAX }
-        ensures { OnOk result (Puts self.old self.new place (binary_over op)) }
+        ensures put { OnOk result (Puts self.old self.new place (binary_over op)) }
+        ensures made { OnOk result (made_of self.new ≡ with_node (made_of self.old) place (binary_over op)) }
     {
         let (a, b) = (self.on_top(1), self.on_top(0));
         self.put(placed(Node::Binary(op, a, b), place), 2)
@@ -295,7 +325,8 @@ impl Draft {
         requires parts { HasExprs (count + 1) (in_hand self.old) }
         requires name { name.0 < length self.old.table.names }
         requires room { length self.old.table.nodes < NODES_MAX }
-        ensures { OnOk result (Puts self.old self.new place (call_over name.0 count)) }
+        ensures put { OnOk result (Puts self.old self.new place (call_over name.0 count)) }
+        ensures made { OnOk result (made_of self.new ≡ with_node (made_of self.old) place (call_over name.0 count)) }
     {
         let receiver = self.on_top(count);
         let args = arg_list(receiver, last_of(&self.hand, count));
@@ -306,12 +337,19 @@ impl Draft {
     pub fn block(&mut self, count: usize, place: (u32, u32)) -> Result<(), AllocError>
         requires parts { HasExprs count (in_hand self.old) }
         requires room { length self.old.table.nodes < NODES_MAX }
-        ensures { OnOk result (Puts self.old self.new place (block_over count)) }
+        ensures put { OnOk result (Puts self.old self.new place (block_over count)) }
+        ensures made { OnOk result (made_of self.new ≡ with_node (made_of self.old) place (block_over count)) }
     {
         let first = self.items.len();
         self.items.extend_from_slice(last_of(&self.hand, count))?;
         let node = Node::Block(first as u32, count as u32);
-        match push_node(&mut self.nodes, &mut self.hand, placed(node, place), count) {
+        match push_node(
+            &mut self.nodes,
+            &mut self.hand,
+            &mut self.heights,
+            placed(node, place),
+            count,
+        ) {
             Ok(()) => Ok(()),
             Err(full) => {
                 self.items.truncate(first);
@@ -333,19 +371,56 @@ impl Draft {
         requires params { AreParams self.old.table (map (λ x. x.0) params.now) }
         requires block { HasBlock (IsBodyBlock (map (λ x. x.0) params.now)) (in_hand self.old) }
         requires room { length self.old.table.nodes < NODES_MAX }
-        ensures { OnOk result (PutsDef self.old self.new place class.0 name.0 (map (λ x. x.0) params.now)) }
+        ensures put { OnOk result (PutsDef self.old self.new place class.0 name.0 (map (λ x. x.0) params.now)) }
+        ensures made { OnOk result (made_of self.new ≡ with_def (made_of self.old) place class.0 name.0 (map (λ x. x.0) params.now)) }
     {
         let block = self.on_top(0);
         let site = self.bodies.len();
         let node = Node::Def(Method::Named(class, name), BodySite(site as u16));
-        let body = Body {
-            def: NodeId(self.nodes.len() as u16),
-            block,
-            count: params.len() as u8,
-            params: param_list(params),
-        };
-        self.bodies.push(body)?;
-        match push_node(&mut self.nodes, &mut self.hand, placed(node, place), 1) {
+        let id = NodeId(self.nodes.len() as u16);
+        self.bodies.push(body_of(id, block, params))?;
+        match push_node(
+            &mut self.nodes,
+            &mut self.hand,
+            &mut self.heights,
+            placed(node, place),
+            1,
+        ) {
+            Ok(()) => Ok(()),
+            Err(full) => {
+                self.bodies.truncate(site);
+                Err(full)
+            }
+        }
+    }
+
+    /// A definition of a method whose name is computed: the expression of the name lies below the
+    /// body's block, the last one in hand.
+    pub fn def_computed(
+        &mut self,
+        class: ClassId,
+        params: &[NameId],
+        place: (u32, u32),
+    ) -> Result<(), AllocError>
+        requires class { class.0 < length self.old.table.classes }
+        requires params { AreParams self.old.table (map (λ x. x.0) params.now) }
+        requires parts { HasNameAndBlock (IsBodyBlock (map (λ x. x.0) params.now)) (in_hand self.old) }
+        requires room { length self.old.table.nodes < NODES_MAX }
+        ensures put { OnOk result (PutsComputedDef self.old self.new place class.0 (map (λ x. x.0) params.now)) }
+        ensures made { OnOk result (made_of self.new ≡ with_computed_def (made_of self.old) place class.0 (map (λ x. x.0) params.now)) }
+    {
+        let (name, block) = (self.on_top(1), self.on_top(0));
+        let site = self.bodies.len();
+        let node = Node::Def(Method::Computed(class, name), BodySite(site as u16));
+        let id = NodeId(self.nodes.len() as u16);
+        self.bodies.push(body_of(id, block, params))?;
+        match push_node(
+            &mut self.nodes,
+            &mut self.hand,
+            &mut self.heights,
+            placed(node, place),
+            2,
+        ) {
             Ok(()) => Ok(()),
             Err(full) => {
                 self.bodies.truncate(site);
@@ -368,12 +443,54 @@ impl Draft {
         requires ty { IsMethodTyIn self.old.table ty }
         requires types { length self.old.table.types < TYPES_MAX }
         requires room { length self.old.table.nodes < NODES_MAX }
-        ensures { OnOk result (PutsDeclare self.old self.new place class.0 name.0 ty asks) }
+        ensures put { OnOk result (PutsDeclare self.old self.new place class.0 name.0 ty asks) }
+        ensures made { OnOk result (made_of self.new ≡ with_declare (made_of self.old) place class.0 name.0 ty asks) }
     {
         let site = self.types.len();
         let node = Node::Declare(Method::Named(class, name), TypeSite(site as u16), asks);
         self.types.push((ty, NodeId(self.nodes.len() as u16)))?;
-        match push_node(&mut self.nodes, &mut self.hand, placed(node, place), 0) {
+        match push_node(
+            &mut self.nodes,
+            &mut self.hand,
+            &mut self.heights,
+            placed(node, place),
+            0,
+        ) {
+            Ok(()) => Ok(()),
+            Err(full) => {
+                self.types.truncate(site);
+                Err(full)
+            }
+        }
+    }
+
+    /// A declaration of the type of a method whose name is computed by the last one in hand.
+    pub fn declare_computed(
+        &mut self,
+        class: ClassId,
+        ty: MethodTy,
+        asks: bool,
+        place: (u32, u32),
+    ) -> Result<(), AllocError>
+        requires class { class.0 < length self.old.table.classes }
+        requires parts { HasExprs 1 (in_hand self.old) }
+        requires ty { IsMethodTyIn self.old.table ty }
+        requires types { length self.old.table.types < TYPES_MAX }
+        requires room { length self.old.table.nodes < NODES_MAX }
+        ensures put { OnOk result (PutsComputedDeclare self.old self.new place class.0 ty asks) }
+        ensures made { OnOk result (made_of self.new ≡ with_computed_declare (made_of self.old) place class.0 ty asks) }
+    {
+        let name = self.on_top(0);
+        let site = self.types.len();
+        let node = Node::Declare(Method::Computed(class, name), TypeSite(site as u16), asks);
+        self.types.push((ty, NodeId(self.nodes.len() as u16)))?;
+        match push_node(
+            &mut self.nodes,
+            &mut self.hand,
+            &mut self.heights,
+            placed(node, place),
+            1,
+        ) {
             Ok(()) => Ok(()),
             Err(full) => {
                 self.types.truncate(site);
@@ -385,11 +502,13 @@ impl Draft {
     /// The setup, whose block is the last one in hand. It takes the place of an earlier one.
     pub fn setup(&mut self)
         requires { HasBlock IsRootBlock (in_hand self.old) }
-        ensures { AddsSetup self.old self.new }
+        ensures setup { AddsSetup self.old self.new }
+        ensures made { made_of self.new ≡ with_setup (made_of self.old) }
     {
         let block = self.on_top(0);
         self.setup = Some(block);
         self.hand.truncate(self.hand.len() - 1);
+        self.heights.truncate(self.heights.len() - 1);
     }
 
     /// A script, whose block is the last one in hand.
@@ -397,11 +516,13 @@ impl Draft {
         requires name { name.0 < length self.old.table.names }
         requires block { HasBlock IsRootBlock (in_hand self.old) }
         requires room { length self.old.table.scripts < SCRIPTS_MAX }
-        ensures { OnOk result (AddsScript self.old self.new name.0) }
+        ensures script { OnOk result (AddsScript self.old self.new name.0) }
+        ensures made { OnOk result (made_of self.new ≡ with_script (made_of self.old) name.0) }
     {
         let block = self.on_top(0);
         self.scripts.push((name, block))?;
         self.hand.truncate(self.hand.len() - 1);
+        self.heights.truncate(self.heights.len() - 1);
         Ok(())
     }
 
@@ -421,6 +542,7 @@ impl Draft {
             setup,
             scripts,
             hand,
+            heights,
         } = self;
         Ok(Program::make(ProgramParts {
             classes: classes.into_vec()?,
@@ -448,7 +570,13 @@ impl Draft {
         requires { CanPut self.old node count }
         ensures { OnOk result (PutsNode self.old self.new node count) }
     {
-        push_node(&mut self.nodes, &mut self.hand, node, count)?;
+        push_node(
+            &mut self.nodes,
+            &mut self.hand,
+            &mut self.heights,
+            node,
+            count,
+        )?;
         Ok(())
     }
 }

@@ -1,8 +1,9 @@
 use Rattle.std.proofs.Common.{◌+◌, ◌∙◌, ap, arith}
 use Rattle.std.proofs.lemmas.Result.{on_ok_weaker}
 use Rattle.hb_draft.specs.Put.{last_nodes}
-use Rattle.hb_draft.specs.Unfinished.{Unfinished}
+use Rattle.hb_draft.specs.Unfinished.{Unfinished, call_over}
 use Rattle.hb_draft.proofs.Steps.{enough_nodes, call_can, call_puts}
+use Rattle.hb_draft.proofs.MadeLemmas.{node-made}
 use Rattle.hb_draft.proofs.draft.Draft.call.Goals as goal
 
 pub on_top-receiver-requires : goal.on_top-receiver-requires
@@ -16,7 +17,10 @@ put-requires c =
     rw c.placed.ensures (call_can c.args.self.now c.args.place c.requires.room c.on_top-receiver.result c.args.name c.arg_list-args.result c.args.count c.requires.parts c.on_top-receiver.ensures
     (c.arg_list-args.ensures.args ∙ c.last_of.ensures ∙ ap (last_nodes c.args.count) (c.deref.ensures.value ∙ ap (λ (d : Unfinished). d.nodes) c.self.view_is)) c.arg_list-args.ensures.form c.requires.name)
 
-pub returns : goal.returns
-returns c =
+pub returns-clause-put : goal.returns-clause-put
+returns-clause-put c =
     on_ok_weaker c.put.result (λ h. call_puts c.args.self.now c.put.new.self c.args.place c.on_top-receiver.result c.args.name c.arg_list-args.result c.args.count c.requires.parts c.on_top-receiver.ensures
     (c.arg_list-args.ensures.args ∙ c.last_of.ensures ∙ ap (last_nodes c.args.count) (c.deref.ensures.value ∙ ap (λ (d : Unfinished). d.nodes) c.self.view_is)) (rw c.placed.ensures at h)) c.put.ensures
+
+pub returns-clause-made : goal.returns-clause-made
+returns-clause-made c = on_ok_weaker c.put.result (node-made c.args.self.now c.put.new.self c.args.place (call_over c.args.name.0 c.args.count)) (returns-clause-put c)

@@ -1,6 +1,8 @@
 use Rattle.std.proofs.Common.{◌≡◌, ◌∙◌, ap, length, map, arith}
 use Rattle.hb_draft.specs.Unfinished.{Unfinished, IsBodyBlock}
-use Rattle.hb_draft.proofs.Sites.{one_node, can_def, def_kept, def_made}
+use Rattle.hb_draft.proofs.Sites.{CanDef, one_node, def_kept, def_made}
+use Rattle.hb_draft.proofs.MadeLemmas.{def-made}
+use Rattle.hb_draft.proofs.Heights.{low-kept, length-kept}
 use Rattle.hb_draft.proofs.draft.Draft.def.Goals as goal
 
 pub on_top-block-requires : goal.on_top-block-requires
@@ -10,16 +12,45 @@ pub invariant_of-self-in-Ok : goal.invariant_of-self-in-Ok
 invariant_of-self-in-Ok c =
     let site : c.len-site.result ≡ length c.self.inside.bodies.items = omega (arith, c.len-site.ensures, c.self.inside.bodies.ok) in
     let id : c.len.result ≡ length c.self.inside.nodes.items = omega (arith, c.len.ensures, c.self.inside.nodes.ok) in
-    let can = can_def c.args.self.now c.args.class.0 c.args.name.0 c.args.params.now c.param_list.result c.len.result c.on_top-block.result c.requires.room c.requires.class c.requires.name
-    (id ∙ ap (λ (d : Unfinished). length d.table.nodes) c.self.view_is) c.param_list.ensures.params c.param_list.ensures.places c.requires.params c.requires.block c.on_top-block.ensures in
-    rw (c.in-Ok.ensures.nodes, c.in-Ok.ensures.hand, c.in_ok-push.ensures.items, c.placed.ensures, site)
-    (def_kept _ _ c.self.view_is c.self.invariant c.args.place c.args.class c.args.name _ _ can)
+    let can : CanDef c.args.self.now c.args.class.0 c.args.name.0 c.body_of.result (map (λ x. x.0) c.args.params.now) = record {
+      room = c.requires.room;
+      known_class = c.requires.class;
+      known_name = c.requires.name;
+      itself = ap (λ i. i.0) c.body_of.ensures.def ∙ id ∙ ap (λ (d : Unfinished). length d.table.nodes) c.self.view_is;
+      places = c.body_of.ensures.places;
+      few = c.body_of.ensures.few;
+      named = c.body_of.ensures.params;
+      params = c.requires.params;
+      has = c.requires.block;
+      last = rw c.body_of.ensures.block c.on_top-block.ensures;
+    } in
+    rw (c.in-Ok.ensures.nodes, c.in-Ok.ensures.hand, c.in-Ok.ensures.heights, c.in_ok-push.ensures.items, c.placed.ensures, site)
+    (def_kept _ _ c.self.view_is _ c.self.invariant c.args.place c.args.class c.args.name _ _ can)
 
-pub returns-in-Ok : goal.returns-in-Ok
-returns-in-Ok c =
+pub returns-in-Ok-clause-put : goal.returns-in-Ok-clause-put
+returns-in-Ok-clause-put c =
     let site : c.len-site.result ≡ length c.self.inside.bodies.items = omega (arith, c.len-site.ensures, c.self.inside.bodies.ok) in
     let id : c.len.result ≡ length c.self.inside.nodes.items = omega (arith, c.len.ensures, c.self.inside.nodes.ok) in
-    let can = can_def c.args.self.now c.args.class.0 c.args.name.0 c.args.params.now c.param_list.result c.len.result c.on_top-block.result c.requires.room c.requires.class c.requires.name
-    (id ∙ ap (λ (d : Unfinished). length d.table.nodes) c.self.view_is) c.param_list.ensures.params c.param_list.ensures.places c.requires.params c.requires.block c.on_top-block.ensures in
+    let can : CanDef c.args.self.now c.args.class.0 c.args.name.0 c.body_of.result (map (λ x. x.0) c.args.params.now) = record {
+      room = c.requires.room;
+      known_class = c.requires.class;
+      known_name = c.requires.name;
+      itself = ap (λ i. i.0) c.body_of.ensures.def ∙ id ∙ ap (λ (d : Unfinished). length d.table.nodes) c.self.view_is;
+      places = c.body_of.ensures.places;
+      few = c.body_of.ensures.few;
+      named = c.body_of.ensures.params;
+      params = c.requires.params;
+      has = c.requires.block;
+      last = rw c.body_of.ensures.block c.on_top-block.ensures;
+    } in
     rw (c.in-Ok.ensures.nodes, c.in-Ok.ensures.hand, c.in_ok-push.ensures.items, c.placed.ensures, site)
-    (def_made _ _ c.self.view_is c.self.invariant c.args.place c.args.class c.args.name _ _ can)
+    (def_made _ _ c.self.view_is _ c.self.invariant c.args.place c.args.class c.args.name _ _ can)
+
+pub returns-in-Ok-clause-made : goal.returns-in-Ok-clause-made
+returns-in-Ok-clause-made c = def-made _ _ c.args.place c.args.class.0 c.args.name.0 (map (λ x. x.0) c.args.params.now) (returns-in-Ok-clause-put c)
+
+pub push_node-requires-clause-heights : goal.push_node-requires-clause-heights
+push_node-requires-clause-heights c = length-kept _ _ _ c.self.invariant
+
+pub push_node-requires-clause-low : goal.push_node-requires-clause-low
+push_node-requires-clause-low c = low-kept _ _ _ c.self.invariant

@@ -13,4 +13,4 @@ name-requires-clause-word c = record { spelled = refl; free = refl; short = litâ
 
 pub script-requires-clause-name : goal.script-requires-clause-name
 script-requires-clause-name c =
-    rw (c.in_ok-block.ensures.table.names, c.in_ok-print.ensures.table.names, c.in_ok-text.ensures.table.names) (slice_get_within _ _ _ c.in_ok-main.ensures.number)
+    rw (c.in_ok-block.ensures.put.table.names, c.in_ok-print.ensures.put.table.names, c.in_ok-text.ensures.put.table.names) (slice_get_within _ _ _ c.in_ok-main.ensures.number)

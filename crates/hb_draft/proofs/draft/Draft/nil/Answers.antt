@@ -1,0 +1,9 @@
+use Rattle.std.proofs.Common.{refl}
+use Rattle.std.proofs.lemmas.Result.{on_ok_weaker}
+use Rattle.hb_tree.specs.declared.node.Node.TheVariants as node
+use Rattle.hb_tree.specs.Tree.{TNil}
+use Rattle.hb_draft.proofs.MadeLemmas.{leaf-made}
+use Rattle.hb_draft.proofs.draft.Draft.nil.Goals as goal
+
+pub returns-clause-made : goal.returns-clause-made
+returns-clause-made c = on_ok_weaker c.put.result (λ h. leaf-made c.args.self.now c.put.new.self c.args.place node.Nil TNil refl (rw c.placed.ensures at h)) c.put.ensures
