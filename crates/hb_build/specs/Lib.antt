@@ -1,0 +1,11 @@
+pub mod Said
+pub mod Pile
+pub mod Acts
+pub mod Needs
+pub mod Sound
+pub mod Answers
+pub mod Tags
+pub mod Fits
+pub mod Ready
+pub mod Follow
+pub mod Ended
