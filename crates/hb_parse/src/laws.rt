@@ -1,0 +1,16 @@
+//! What is true of every text and its tokens.
+
+ghost use Rattle.std.specs.Prelude.{◌≡◌, ℕ, List};
+ghost use Rattle.hb_lex.specs.declared.spans.Token.{Token};
+ghost use Rattle.hb_build.specs.declared.faults.ParseFail.{ParseFail};
+ghost use Rattle.hb_build.specs.Said.{Said};
+ghost use Rattle.hb_parse.specs.Text.{IsFault, Says};
+
+/// Tokens of a text say one program or have one first fault, and never both.
+pub fn one_answer()
+    ensures said { (text : List ℕ) (tokens : List Token) (a b : Said) → Says text tokens a → Says text tokens b → a ≡ b }
+    ensures apart { (text : List ℕ) (tokens : List Token) (said : Said) (fault : ParseFail)
+        → Says text tokens said → IsFault text tokens fault → ⊥ }
+    ensures fault { (text : List ℕ) (tokens : List Token) (e f : ParseFail)
+        → IsFault text tokens e → IsFault text tokens f → e ≡ f }
+{}
