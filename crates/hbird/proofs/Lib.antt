@@ -1,3 +1,4 @@
+pub mod FaultLemmas
 pub mod Rows
 pub mod RunLemmas
 pub mod TypeLemmas

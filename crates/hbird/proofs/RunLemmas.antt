@@ -5,12 +5,21 @@ use Rattle.std.specs.Io.KnownBytes.{Keeps}
 use Rattle.std.specs.declared.option.Option.{Option}
 use Rattle.std.specs.declared.result.Result.{Result}
 use Rattle.hb_io.specs.Moves.{TakesAll, TakesCount}
+use Rattle.hb_lex.specs.declared.faults.LexFail.{LexFail}
+use Rattle.hb_lex.specs.declared.faults.LexFail.TheVariants as lex
+use Rattle.hb_lex.specs.declared.spans.Token.{Token}
+use Rattle.hb_lex.specs.Text.{HasFault, HasTokens}
 use Rattle.hb_tree.specs.Table.{Table}
-use Rattle.hb_parse.specs.Items.{Item, Typed, Defined, Printed, Place}
-use Rattle.hb_parse.specs.First.{IsFirst}
-use Rattle.hb_parse.specs.Held.{Holds}
-use Rattle.hbird.specs.Answers.{Answers, CameTo, Ends, IsDueFor, IsNotYet, IsReported, IsRunOf, IsRunOutcome, Reads}
-use Rattle.hbird.specs.Outcomes.{IsDue, Outcome, not_yet, status_of, too_long}
+use Rattle.hb_build.specs.declared.faults.ParseFail.{ParseFail}
+use Rattle.hb_build.specs.declared.faults.ParseFail.TheVariants as parse
+use Rattle.hb_build.specs.Said.{Said}
+use Rattle.hb_parse.specs.Text.{IsFault, Says}
+use Rattle.hb_first.specs.Items.{Item, Typed, Defined, Printed, Place}
+use Rattle.hb_first.specs.First.{IsFirst}
+use Rattle.hb_first.specs.Held.{Holds}
+use Rattle.hbird.specs.Answers.{Answers, CameTo, Ends, IsDueFor, IsFaulty, IsNotYet, IsReadAs, IsReported, IsRunOf, IsRunOutcome, IsWhole, Reads}
+use Rattle.hbird.specs.Faults.{Fault, IsFirstFault, fault_line, lex_fault, parse_fault}
+use Rattle.hbird.specs.Outcomes.{IsDue, IsRefused, Outcome, faulty, not_yet, status_of, too_long}
 use Rattle.hbird.specs.Report.{Report, Run, after_call, report, report_from, start, script_line}
 use Rattle.hbird.specs.Verdict.{given}
 use Rattle.hbird.specs.declared.due.Due.{Due}
@@ -38,9 +47,12 @@ due-no_refusal : (text : List ℕ) (o : Outcome) → IsReported text o ⊎ IsNot
 due-no_refusal text o (inl h) = λ e. report_from-no_refusal (start (script_line h.script)) h.items (sym h.ending ∙ e)
 due-no_refusal text o (inr h) = λ e. let same : o.ending ≡ TextRefused = ap (λ (x : Outcome). x.ending) h.same in cc
 
-pub run-all : (a b : Option (List ℕ)) (text : List ℕ) (o : Outcome) → TakesAll a b LIMIT text
-    → IsReported text o ⊎ IsNotYet text o → IsRunOutcome a o
-run-all None b text o h due = due-no_refusal text o due
+read-no_refusal : (text : List ℕ) (o : Outcome) → IsReadAs text o → o.ending ≢ WordsRefused
+read-no_refusal text o (inl h) = λ e. let same : o.ending ≡ TextRefused = ap (λ (x : Outcome). x.ending) h.same in cc
+read-no_refusal text o (inr h) = due-no_refusal text o h.1
+
+pub run-all : (a b : Option (List ℕ)) (text : List ℕ) (o : Outcome) → TakesAll a b LIMIT text → IsReadAs text o → IsRunOutcome a o
+run-all None b text o h due = read-no_refusal text o due
 run-all (Some x) None text o h due = absurd h.taken
 run-all (Some x) (Some y) text o h due =
     let same : x ≡ text = h.taken ∙ ap (λ rest. text ++ rest) h.end ∙ append-nil text in
@@ -48,7 +60,7 @@ run-all (Some x) (Some y) text o h due =
 
 -- what is due for a text within the limit is due for the source that it was read from
 pub run-within : {E : Type 0} (a b : Option (List ℕ)) (text kept : List ℕ) (r : Result Due E) → text ≡ kept → TakesAll a b LIMIT kept
-    → IfOk r (λ due. (o : Outcome) × (IsReported text o ⊎ IsNotYet text o) × IsDue due o.ending o.text × (o.takes ≡ length text))
+    → IfOk r (λ due. (o : Outcome) × IsReadAs text o × IsDue due o.ending o.text × (o.takes ≡ length text))
     → IfOk r (λ due. (o : Outcome) × IsRunOutcome a o × IsDue due o.ending o.text × TakesCount a b o.takes)
 run-within a b text kept (Err e) same h is = tt
 run-within a b text kept (Ok due) same h (o, of, is, takes) =
@@ -80,11 +92,50 @@ pub text-other : (text : List ℕ) (due : Due)
     → (o : Outcome) × (IsReported text o ⊎ IsNotYet text o) × IsDue due o.ending o.text × (o.takes ≡ length text)
 text-other text due other is = (not_yet (length text), inr (record { other = other; same = refl }), is, refl)
 
+-- what is due for a text that is a program, and for one that has a fault
+pub text-whole : {E : Type 0} (text : List ℕ) (tokens : List Token) (said : Said) (r : Result Due E) → HasTokens text tokens → Says text tokens said
+    → IfOk r (λ due. (o : Outcome) × (IsReported text o ⊎ IsNotYet text o) × IsDue due o.ending o.text × (o.takes ≡ length text))
+    → IfOk r (λ due. (o : Outcome) × IsReadAs text o × IsDue due o.ending o.text × (o.takes ≡ length text))
+text-whole text tokens said (Err e) read says is = tt
+text-whole text tokens said (Ok due) read says (o, of, is, takes) =
+    let whole : IsWhole text = record { tokens = tokens; read = read; said = said; says = says } in
+    (o, inr (whole, of), is, takes)
+
+text-faulty : (text : List ℕ) (fault : Fault) (due : Due) → IsFirstFault text fault → IsDue due TextRefused (fault_line text fault)
+    → (o : Outcome) × IsReadAs text o × IsDue due o.ending o.text × (o.takes ≡ length text)
+text-faulty text fault due first is =
+    let told : IsFaulty text (faulty (fault_line text fault) (length text)) = record { fault = fault; first = first; same = refl } in
+    (faulty (fault_line text fault) (length text), inl told, is, refl)
+
+told-faulty : {E : Type 0} (text : List ℕ) (found : Option Fault) (r : Result Due E) → ((fault : Fault) → found ≡ Some fault → IsFirstFault text fault)
+    → IfOk r (λ due. IsRefused due text found)
+    → IfOk r (λ due. (o : Outcome) × IsReadAs text o × IsDue due o.ending o.text × (o.takes ≡ length text))
+told-faulty text found (Err e) first is = tt
+told-faulty text None (Ok due) first is = absurd is
+told-faulty text (Some fault) (Ok due) first is = text-faulty text fault due (first fault refl) is
+
+pub text-lex_fault : {E : Type 0} (text : List ℕ) (fail : LexFail) (found : Option Fault) (r : Result Due E) → (fail ≡ lex.NoMemory) ⊎ HasFault text fail
+    → found ≡ lex_fault fail → IfOk r (λ due. IsRefused due text found)
+    → IfOk r (λ due. (o : Outcome) × IsReadAs text o × IsDue due o.ending o.text × (o.takes ≡ length text))
+text-lex_fault text fail found r (inl memory) told is =
+    told-faulty text found r (λ fault e. let some : None ≡ Some fault = sym (ap lex_fault memory) ∙ sym told ∙ e in absurd cc) is
+text-lex_fault text fail found r (inr first) told is =
+    told-faulty text found r (λ fault e. inl (record { cause = fail; first = first; is_told = sym told ∙ e })) is
+
+pub text-parse_fault : {E : Type 0} (text : List ℕ) (tokens : List Token) (fail : ParseFail) (found : Option Fault) (r : Result Due E) → HasTokens text tokens
+    → IsFault text tokens fail ⊎ (fail ≡ parse.NoMemory)
+    → found ≡ parse_fault fail → IfOk r (λ due. IsRefused due text found)
+    → IfOk r (λ due. (o : Outcome) × IsReadAs text o × IsDue due o.ending o.text × (o.takes ≡ length text))
+text-parse_fault text tokens fail found r read (inl first) told is =
+    told-faulty text found r (λ fault e. inr (record { tokens = tokens; read = read; cause = fail; first = first; is_told = sym told ∙ e })) is
+text-parse_fault text tokens fail found r read (inr memory) told is =
+    told-faulty text found r (λ fault e. let some : None ≡ Some fault = sym (ap parse_fault memory) ∙ sym told ∙ e in absurd cc) is
+
 -- what is due for a job is never that of refused words
 run-no_refusal : (left : Option (List ℕ)) (o : Outcome) → IsRunOutcome left o → o.ending ≢ WordsRefused
 run-no_refusal None o h = h
 run-no_refusal (Some text) o (inl h) = λ e. let same : o.ending ≡ TextRefused = ap (λ (x : Outcome). x.ending) h.1 in cc
-run-no_refusal (Some text) o (inr h) = due-no_refusal text o h.1
+run-no_refusal (Some text) o (inr h) = read-no_refusal text o h.1
 
 status_two : (e : Ending) → status_of e ≡ 2 → e ≡ WordsRefused
 status_two Done h = absurd (omega arith)

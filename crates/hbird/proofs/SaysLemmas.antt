@@ -9,8 +9,8 @@ use Rattle.hb_tree.specs.declared.node.Op.TheVariants as op
 use Rattle.hb_tree.specs.Table.{Table}
 use Rattle.hb_tree.specs.Tree.{Tree, TText, TVar, TNew, TPrint, TBinary, TCall, TDef, TDeclare, TBlock, Forest, NoTree, Trees}
 use Rattle.hb_tree.specs.TreeAt.{tree_at}
-use Rattle.hb_parse.specs.Items.{Item, Typed, Defined, Printed, Part, Place}
-use Rattle.hb_parse.specs.Held.{AreValues, Holds, HoldsBody, HoldsCall, HoldsType, IsBlockOf, Joins, SayAll, Says}
+use Rattle.hb_first.specs.Items.{Item, Typed, Defined, Printed, Part, Place}
+use Rattle.hb_first.specs.Held.{AreValues, Holds, HoldsBody, HoldsCall, HoldsType, IsBlockOf, Joins, SayAll, Says}
 use Rattle.hbird.specs.Said.{args_in, name_at, names_at, parts_in, params_in, said, said_by_all}
 
 joined : (t : Table) (e : Tree) (parts : List Part) → Joins t e parts → parts_in t e ≡ parts

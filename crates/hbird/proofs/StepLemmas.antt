@@ -9,7 +9,7 @@ use Rattle.hb_tree.specs.Table.{Table}
 use Rattle.hb_tree.specs.Nodes.{block_in, place_at}
 use Rattle.hb_tree.specs.Tree.{Tree, TCall, TDeclare, TDef, Forest}
 use Rattle.hb_tree.specs.TreeAt.{forest_at, tree_at}
-use Rattle.hb_parse.specs.Items.{Item, Place}
+use Rattle.hb_first.specs.Items.{Item, Place}
 use Rattle.hbird.specs.declared.due.Due.{Due}
 use Rattle.hbird.specs.declared.due.Ending.TheVariants.{Done, Stopped}
 use Rattle.hbird.specs.declared.run.Run.{Run as Running}

@@ -3,9 +3,14 @@ use Rattle.std.specs.Prelude.{◌≡◌, ◌≢◌, ◌≤◌, ◌<◌, ◌⊎�
 use Rattle.std.specs.Io.KnownBytes.{Appends, Keeps}
 use Rattle.hb_io.specs.Causes.{Rose}
 use Rattle.hb_io.specs.Moves.{AppendsFront, TakesCount}
-use Rattle.hb_parse.specs.Items.{Item}
-use Rattle.hb_parse.specs.First.{IsFirst}
-use Rattle.hbird.specs.Outcomes.{Outcome, not_yet, status_of, too_long, words_refused}
+use Rattle.hb_lex.specs.declared.spans.Token.{Token}
+use Rattle.hb_lex.specs.Text.{HasTokens}
+use Rattle.hb_build.specs.Said.{Said}
+use Rattle.hb_parse.specs.Text.{Says}
+use Rattle.hb_first.specs.Items.{Item}
+use Rattle.hb_first.specs.First.{IsFirst}
+use Rattle.hbird.specs.Faults.{Fault, IsFirstFault, fault_line}
+use Rattle.hbird.specs.Outcomes.{Outcome, faulty, not_yet, status_of, too_long, words_refused}
 use Rattle.hbird.specs.Report.{report}
 use Rattle.hbird.specs.declared.due.Ending.TheVariants.{WordsRefused}
 use Rattle.hbird.specs.declared.jobs.Job.{Job}
@@ -18,6 +23,19 @@ pub record Ends : Type 0 where
   pub read_faults : ℕ
   pub held : Option (List ℕ)
   pub write_faults : ℕ
+
+-- the text has a fault, which is told
+pub record IsFaulty (text : List ℕ) (o : Outcome) : Type 0 where
+  pub fault : Fault
+  pub first : IsFirstFault text fault
+  pub same : o ≡ faulty (fault_line text fault) (length text)
+
+-- the text is a program
+pub record IsWhole (text : List ℕ) : Type 0 where
+  pub tokens : List Token
+  pub read : HasTokens text tokens
+  pub said : Said
+  pub says : Says text tokens said
 
 -- the text has the first form, and this is the report of its script
 pub record IsReported (text : List ℕ) (o : Outcome) : Type 0 where
@@ -34,10 +52,13 @@ pub record IsNotYet (text : List ℕ) (o : Outcome) : Type 0 where
   pub other : (class script : List ℕ) → (items : List Item) → IsFirst text class script items → ⊥
   pub same : o ≡ not_yet (length text)
 
--- the text is too long, or its script is run, or it has another form
+-- a text within the limit has a fault, or is a program, and then its script is run, or it has another form
+abbrev pub IsReadAs : List ℕ → Outcome → Type 0
+IsReadAs text o = IsFaulty text o ⊎ (IsWhole text × (IsReported text o ⊎ IsNotYet text o))
+
+-- the text is too long, or it is read
 abbrev pub IsRunOf : List ℕ → Outcome → Type 0
-IsRunOf text o =
-    ((LIMIT < length text) × (o ≡ too_long LIMIT)) ⊎ ((length text ≤ LIMIT) × (IsReported text o ⊎ IsNotYet text o))
+IsRunOf text o = ((LIMIT < length text) × (o ≡ too_long LIMIT)) ⊎ ((length text ≤ LIMIT) × IsReadAs text o)
 
 -- an outcome of a run: that of the bytes where the source tells them, and never that of refused words
 abbrev pub IsRunOutcome : Option (List ℕ) → Outcome → Type 0

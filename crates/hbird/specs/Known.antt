@@ -4,7 +4,7 @@ use Rattle.std.specs.Option.{option_map}
 use Rattle.hb_types.specs.declared.ids.BodySite.{BodySite}
 use Rattle.hb_types.specs.declared.ids.TypeSite.{TypeSite}
 use Rattle.hb_tree.specs.Table.{Table}
-use Rattle.hb_parse.specs.Items.{Item, Place}
+use Rattle.hb_first.specs.Items.{Item, Place}
 use Rattle.hbird.specs.declared.methods.Methods.{Methods}
 use Rattle.hbird.specs.declared.run.Run.{Run as Running}
 use Rattle.hbird.specs.Judgement.{Definition, Signature, found}

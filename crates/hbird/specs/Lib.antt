@@ -3,6 +3,7 @@ pub mod Judgement
 pub mod Verdict
 pub mod Jobs
 pub mod Outcomes
+pub mod Faults
 pub mod Report
 pub mod Answers
 pub mod Said

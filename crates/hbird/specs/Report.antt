@@ -4,7 +4,7 @@
 -- at most 64 bytes, the arguments are texts, and 64 items pass no limit.
 use Rattle.std.specs.Prelude.{ℕ, ◌+◌, List, [], ◌∷◌, ◌++◌, nat_eq, Option, Some, None, codes, decimal, if◌then◌else◌}
 use Rattle.std.specs.List.{flat_map}
-use Rattle.hb_parse.specs.Items.{Item, Typed, Defined, Printed, Place}
+use Rattle.hb_first.specs.Items.{Item, Typed, Defined, Printed, Place}
 use Rattle.hbird.specs.declared.due.Ending.{Ending}
 use Rattle.hbird.specs.declared.due.Ending.TheVariants.{Done, Stopped}
 use Rattle.hbird.specs.declared.due.Due.{Due}

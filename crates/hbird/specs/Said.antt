@@ -13,7 +13,7 @@ use Rattle.hb_tree.specs.Table.{Table}
 use Rattle.hb_tree.specs.Tree.{Tree, TText, TVar, TPrint, TBinary, TCall, TDef, TDeclare, TBlock, Forest, NoTree, Trees}
 use Rattle.hb_tree.specs.Nodes.{block_in, place_at}
 use Rattle.hb_tree.specs.TreeAt.{tree_at}
-use Rattle.hb_parse.specs.Items.{Item, Typed, Defined, Printed, Part, Literal, Parameter, Place}
+use Rattle.hb_first.specs.Items.{Item, Typed, Defined, Printed, Part, Literal, Parameter, Place}
 use Rattle.hbird.specs.declared.parts.Part as declared
 use Rattle.hbird.specs.declared.parts.Part.TheVariants as part
 use Rattle.hbird.specs.Judgement.{Definition, Signature}

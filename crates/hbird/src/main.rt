@@ -3,6 +3,7 @@
 
 mod call;
 mod due;
+mod faults;
 mod jobs;
 mod judge;
 mod methods;

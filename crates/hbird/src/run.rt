@@ -2,8 +2,8 @@
 
 ghost use Rattle.std.specs.Prelude.{◌≡◌, ◌<◌, ◌≤◌, ◌+◌, ◌-◌, ◌^◌, ◌++◌, ℕ, List, All, IfOk, codes, length};
 ghost use Rattle.hb_tree.specs.TreeAt.{forest_at, tree_at};
-ghost use Rattle.hb_parse.specs.Items.{Item, Place};
-ghost use Rattle.hb_parse.specs.Held.{Holds};
+ghost use Rattle.hb_first.specs.Items.{Item, Place};
+ghost use Rattle.hb_first.specs.Held.{Holds};
 ghost use Rattle.hbird.specs.Outcomes.{IsDue};
 ghost use Rattle.hbird.specs.Known.{IsOf, Stands};
 ghost use Rattle.hbird.specs.Report.{IsReport, Run as Meant, count_line, report, report_from, script_line, start, stop_line, with_def, with_type};

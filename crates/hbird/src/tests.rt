@@ -71,7 +71,7 @@ fn answers_by_words_bytes_and_faults(rt: HostRuntime) -> Result<(), Fail> {
             ..on_text(GREETING, 2, refused)
         },
         on_text("", 1, "text NotYet\n"),
-        on_text("class A\nclass A", 1, "text NotYet\n"),
+        on_text("class A\nclass A", 1, "text TwiceClass 2:7\n"),
         // No body.
         on_text(
             "class A\nscript main\ntype A.hi : (Str) -> Str\nprint A.new.hi(\"bob\")\nend\n",

@@ -2,17 +2,22 @@
 
 ghost use Rattle.std.specs.Prelude.{◌≡◌, ◌≤◌, ◌⊎◌, ℕ, List, Err, IfOk, IsNone, OnErr, length, map};
 ghost use Rattle.std.specs.Io.KnownBytes.{Keeps};
+ghost use Rattle.std.specs.Option.{option_map};
 ghost use Rattle.hb_io.specs.Causes.{Rose};
 ghost use Rattle.hb_io.specs.Moves.{TakesCount};
-ghost use Rattle.hbird.specs.Answers.{Answers, Ends, IsDueFor, IsReported, IsNotYet, IsRunOf, IsRunOutcome, Reads};
+ghost use Rattle.hbird.specs.Answers.{Answers, Ends, IsDueFor, IsNotYet, IsReadAs, IsReported, IsRunOf, IsRunOutcome, Reads};
+ghost use Rattle.hbird.specs.Faults.{fault_line};
 ghost use Rattle.hbird.specs.Jobs.{job_of};
-ghost use Rattle.hbird.specs.Outcomes.{IsDue, Outcome};
+ghost use Rattle.hbird.specs.Outcomes.{IsDue, IsRefused, Outcome, fault_of};
 
 use crate::due::{Due, Ending, Stop};
+use crate::faults::{Fault, fault_line, lex_fault, parse_fault};
 use crate::jobs::{Job, job_asked};
 use crate::run::report;
+use hb_first::{FirstFail, one_reading, parse_first};
 use hb_io::{ReadFail, Sink, Source, read_all, write_all_of};
-use hb_parse::{FirstFail, one_reading, parse_first};
+use hb_lex::lex;
+use hb_parse::parse;
 use std::alloc::Global;
 
 /// The bytes of a text, at most.
@@ -24,8 +29,21 @@ const READ_FAULT: u8 = 4;
 
 const WRITE_FAULT: u8 = 5;
 
-// What a text within the limit comes to.
-fn run_text(alloc: Global, text: &[u8]) -> Result<Due, Stop>
+// What a text with this fault comes to, or, where there is none, want of memory.
+fn refused(alloc: Global, text: &[u8], fault: Option<Fault>) -> Result<Due, Stop>
+    requires { length text.now ≤ LIMIT }
+    ensures due { IfOk result (λ due. IsRefused due text.now (option_map fault_of fault)) }
+    ensures memory { OnErr result (result ≡ Err Stop.Memory) }
+{
+    let Some(fault) = fault else {
+        return Err(Stop::Memory);
+    };
+    let line = fault_line(alloc, text, fault)?;
+    Ok(Due::new(alloc, Ending::TextRefused, &line)?)
+}
+
+// What a text comes to that is a program: the report of its script, or that it has another form than the first.
+fn run_whole(alloc: Global, text: &[u8]) -> Result<Due, Stop>
     requires { length text.now ≤ LIMIT }
     ensures due { IfOk result (λ due. (o : Outcome) × (IsReported text.now o ⊎ IsNotYet text.now o)
         × IsDue due o.ending o.text × (o.takes ≡ length text.now)) }
@@ -35,6 +53,23 @@ fn run_text(alloc: Global, text: &[u8]) -> Result<Due, Stop>
         Ok(program) => Ok(report(alloc, &program)?),
         Err(FirstFail::NotYet) => Ok(Due::new(alloc, Ending::TextRefused, "text NotYet\n")?),
         Err(FirstFail::NoMemory) => Err(Stop::Memory),
+    }
+}
+
+// What a text within the limit comes to.
+fn run_text(alloc: Global, text: &[u8]) -> Result<Due, Stop>
+    requires { length text.now ≤ LIMIT }
+    ensures due { IfOk result (λ due. (o : Outcome) × IsReadAs text.now o
+        × IsDue due o.ending o.text × (o.takes ≡ length text.now)) }
+    ensures memory { OnErr result (result ≡ Err Stop.Memory) }
+{
+    let tokens = match lex(alloc, text) {
+        Ok(tokens) => tokens,
+        Err(fail) => return refused(alloc, text, lex_fault(fail)),
+    };
+    match parse(alloc, text, &tokens) {
+        Ok(_) => run_whole(alloc, text),
+        Err(fail) => refused(alloc, text, parse_fault(fail)),
     }
 }
 
@@ -73,6 +108,8 @@ fn due_for<S: Source>(alloc: Global, job: Option<Job>, source: &mut S) -> Result
 pub fn one_due()
     ensures { (text : List ℕ) (a b : Outcome) → IsRunOf text a → IsRunOf text b → a ≡ b }
 {
+    hb_lex::one_answer();
+    hb_parse::one_answer();
     one_reading();
 }
 

@@ -1,10 +1,14 @@
-use Rattle.std.proofs.Common.{rules}
-use Rattle.hbird.proofs.RunLemmas.{text-first, text-other}
+use Rattle.hbird.proofs.RunLemmas.{text-lex_fault, text-parse_fault, text-whole}
 use Rattle.hbird.proofs.top.run_text.Goals as goal
 
-pub returns-in_ok-report-in-Ok-clause-due : goal.returns-in_ok-report-in-Ok-clause-due
-returns-in_ok-report-in-Ok-clause-due c = text-first _ _ _ c.in-Ok.ensures.read c.in_ok-report-in-Ok.ensures
+pub returns-in-Err-clause-due : goal.returns-in-Err-clause-due
+returns-in-Err-clause-due c =
+    text-lex_fault c.args.text.now _ _ c.refused.result c.in-Err.ensures.fault c.lex_fault.ensures c.refused.ensures.due
 
-pub returns-in_ok-new-in-Err-NotYet-clause-due : goal.returns-in_ok-new-in-Err-NotYet-clause-due
-returns-in_ok-new-in-Err-NotYet-clause-due c =
-    text-other _ _ (c.in-Err-NotYet.ensures.not_yet (search rules)) c.in_ok-new-in-Err-NotYet.ensures
+pub returns-in-Ok-parse-clause-due : goal.returns-in-Ok-parse-clause-due
+returns-in-Ok-parse-clause-due c =
+    text-whole c.args.text.now _ _ c.run_whole.result c.in-Ok.ensures.tokens c.in-Ok-parse.ensures c.run_whole.ensures.due
+
+pub returns-clause-due : goal.returns-clause-due
+returns-clause-due c =
+    text-parse_fault c.args.text.now _ _ _ c.refused-in-Err-parse.result c.in-Ok.ensures.tokens c.in-Err-parse.ensures c.parse_fault.ensures c.refused-in-Err-parse.ensures.due
