@@ -133,9 +133,19 @@ check_papers() {
     fi
 }
 
+# Each fault of a text at its place, and each limit at its value and one past it.
+check_faults() {
+    if command -v python3 >/dev/null; then
+        check "the faults of texts" python3 tests/faults.py "$program"
+    else
+        skip "python3 is not installed"
+    fi
+}
+
 if [[ -x $program ]]; then
     check_examples
     check_edges
+    check_faults
 else
     skip "the program is not built: ./hbird builds it"
 fi
