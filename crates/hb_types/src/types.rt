@@ -1,7 +1,7 @@
 //! Types of values and of methods.
 
-ghost use Rattle.std.specs.Prelude.{◌↔◌, IsTrue};
-ghost use Rattle.hb_types.specs.Types.{IsBelow};
+ghost use Rattle.std.specs.Prelude.{◌≡◌, ◌↔◌, IsTrue};
+ghost use Rattle.hb_types.specs.Types.{IsBelow, is_below, join_of};
 
 use crate::ids::ClassId;
 
@@ -31,9 +31,23 @@ pub struct MethodTy {
 
 /// Whether each value of the type `a` is one of the type `b`.
 pub fn below(a: Ty, b: Ty) -> bool
-    ensures { IsTrue result ↔ IsBelow a b }
+    ensures order { IsTrue result ↔ IsBelow a b }
+    ensures computed { result ≡ is_below a b }
 {
     a == b || a == Ty::Nil || b == Ty::Any
+}
+
+/// The greater of two types where one is below the other, else `Any`.
+pub fn join(a: Ty, b: Ty) -> Ty
+    ensures { result ≡ join_of a b }
+{
+    if below(a, b) {
+        b
+    } else if below(b, a) {
+        a
+    } else {
+        Ty::Any
+    }
 }
 
 #[cfg(test)]
