@@ -1,0 +1,5 @@
+//! The judgement of method bodies, its faults, and the derivations that show it, with their laws.
+#![tactic(auto)]
+
+pub mod ill;
+pub mod raw;
