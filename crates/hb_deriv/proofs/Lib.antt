@@ -7,3 +7,4 @@ pub mod WalkLemmas
 pub mod AlongLemmas
 pub mod GoodLemmas
 pub mod LookLemmas
+pub mod Examples

@@ -72,7 +72,9 @@ place_of seen (Look id j ∷ es) ks k rest h = go (has j seen) refl ks h (λ see
         let q = head_key j i (fresh (seen ++ j ∷ []) es) (ks ++ k ∷ rest) h in
         let p = later (seen ++ j ∷ []) ks q.1 in
         record {
-          front = Look id j ∷ p.front; id = p.id; rest = p.rest;
+          front = Look id j ∷ p.front;
+          id = p.id;
+          rest = p.rest;
           is = ap (λ (l : Events). Look id j ∷ l) p.is;
           before = rw e (ap (λ (l : List Key). j ∷ l) p.before ∙ ap (λ (x : Key). x ∷ ks) q.0);
           new = subst (λ (l : List Key). has k l ≡ false) (append_assoc seen (j ∷ []) ks ∙ ap (λ (x : Key). seen ++ x ∷ ks) q.0) p.new;
