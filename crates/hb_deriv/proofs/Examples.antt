@@ -4,13 +4,12 @@ use Rattle.std.specs.Prelude.{Some, None, Ok, Err, pos, nat_eq, if◌then◌else
 use Rattle.hb_types.specs.declared.types.Ty.{Ty}
 use Rattle.hb_types.specs.declared.types.Ty.TheVariants as ty
 use Rattle.hb_types.specs.declared.types.MethodTy.{MethodTy}
-use Rattle.hb_types.specs.Variables.{variable}
 use Rattle.hb_tree.specs.declared.node.Op.TheVariants as op
-use Rattle.hb_tree.specs.Tree.{Tree, TSelf, TInt, TText, TVar, TAssign, TBinary, TIf, TCall, TBlock, NoTree, Trees}
+use Rattle.hb_tree.specs.Tree.{TSelf, TInt, TText, TVar, TAssign, TBinary, TIf, TCall, TBlock, NoTree, Trees}
 use Rattle.hb_deriv.specs.declared.ill.Reason.TheVariants as reason
 use Rattle.hb_deriv.specs.declared.raw.Used.{Used}
 use Rattle.hb_deriv.specs.declared.raw.Step.{Step}
-use Rattle.hb_deriv.specs.Judge.{Types, Subject, ◌>>=◌, ill_at, object, judge_body}
+use Rattle.hb_deriv.specs.Judge.{Subject, ◌>>=◌, ill_at, object, judge_body}
 use Rattle.hb_deriv.specs.Events.{behind, looks}
 use Rattle.hb_deriv.specs.Derivation.{Content, Sites, step}
 use Rattle.hb_deriv.specs.Walk.{AtUses, AtStep, ◌>>>◌, walk_body}

@@ -1,8 +1,9 @@
 //! What is true of the judgement, its faults, its looks and derivations.
 
-ghost use Rattle.std.specs.Prelude.{◌≡◌, ◌⊎◌, ◌↔◌, ℕ, List, ◌∷◌, ◌++◌, Ok, Err};
+ghost use Rattle.std.specs.Prelude.{◌≡◌, ◌⊎◌, ◌↔◌, ℕ, List, ◌∷◌, ◌++◌, Some, Ok, Err};
 ghost use Rattle.hb_types.specs.declared.types.Ty.{Ty};
 ghost use Rattle.hb_types.specs.Variables.{Variables};
+ghost use Rattle.hb_tree.specs.Table.{Table};
 ghost use Rattle.hb_tree.specs.Tree.{Tree};
 ghost use Rattle.hb_deriv.specs.declared.ill.Ill.{Ill};
 ghost use Rattle.hb_deriv.specs.Judge.{Key, Subject, Typed, Types, judge, judge_body};
@@ -11,6 +12,7 @@ ghost use Rattle.hb_deriv.specs.Faults.{BodyFails, Fails};
 ghost use Rattle.hb_deriv.specs.Events.{SameAt, events_body, looks};
 ghost use Rattle.hb_deriv.specs.Derivation.{AgreesWith, Content, Derives, Sites};
 ghost use Rattle.hb_deriv.specs.Walk.{IsGood};
+ghost use Rattle.hb_deriv.specs.Programs.{IsFor, sites_of, subject_of};
 
 /// The judgement holds as it is computed.
 pub fn judged_is_computed()
@@ -54,6 +56,12 @@ pub fn looks_go_on()
 pub fn good_derives()
     ensures { (sites : Sites) (s : Subject) (d : Content) → IsGood sites s d
         → (types : Types) → AgreesWith sites d.uses types → Derives types s d }
+{}
+
+/// A derivation for a program derives the body that it names in each table with which it agrees.
+pub fn programs_derivation_derives()
+    ensures { (t : Table) (d : Content) → IsFor t d → (types : Types) → AgreesWith (sites_of t) d.uses types
+        → (s : Subject) × (subject_of t d.class d.body d.declared ≡ Some s) × Derives types s d }
 {}
 
 /// A derivation that derives a body in one table with which it agrees is good.
