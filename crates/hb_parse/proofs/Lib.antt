@@ -10,3 +10,6 @@ pub mod PieceLemmas
 pub mod CanonicalLemmas
 pub mod DeriveLemmas
 pub mod ProgramTextLemmas
+pub mod SpareLemmas
+pub mod LineLemmas
+pub mod BlockCounts
