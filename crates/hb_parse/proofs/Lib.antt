@@ -13,3 +13,4 @@ pub mod ProgramTextLemmas
 pub mod SpareLemmas
 pub mod LineLemmas
 pub mod BlockCounts
+pub mod ApartLemmas
