@@ -14,3 +14,5 @@ pub mod SpareLemmas
 pub mod LineLemmas
 pub mod BlockCounts
 pub mod ApartLemmas
+pub mod HoldLemmas
+pub mod LaidLemmas
