@@ -16,3 +16,4 @@ pub mod BlockCounts
 pub mod ApartLemmas
 pub mod HoldLemmas
 pub mod LaidLemmas
+pub mod OwnLemmas
