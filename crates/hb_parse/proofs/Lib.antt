@@ -17,3 +17,4 @@ pub mod ApartLemmas
 pub mod HoldLemmas
 pub mod LaidLemmas
 pub mod OwnLemmas
+pub mod AlongLemmas
