@@ -166,7 +166,7 @@ module _ (text : List ℕ) (tokens : List Token) (ordered : AreInOrder 0 tokens)
     pub read : bound ≤ end_of (last_of tokens at)
     pub unread : free ≡ true → (bound ≤ first_byte (last_of tokens at)) × (first_byte (last_of tokens at) < end_of (last_of tokens at))
 
-  along-start : Along program 0 nothing
+  pub along-start : Along program 0 nothing
   along-start = record {
     state = record { last = None; tags = [] };
     fits = fits-program;
@@ -175,13 +175,16 @@ module _ (text : List ℕ) (tokens : List Token) (ordered : AreInOrder 0 tokens)
     free = false;
     spares = refl;
     bound = 0;
-    apart = (record {
-      made = [];
-      are_made = tt;
-      kept = λ k e. absurd (none-some None e);
-      once = λ a. omega arith;
-      below = λ a le. omega arith;
-    }, tt);
+    apart = (
+      record {
+        made = [];
+        are_made = tt;
+        kept = λ k e. absurd (none-some None e);
+        once = λ a. omega arith;
+        below = λ a le. omega arith;
+      },
+      tt,
+    );
     read = omega arith;
     unread = λ e. absurd (false≢true e);
   }
@@ -264,7 +267,7 @@ module _ (text : List ℕ) (tokens : List Token) (ordered : AreInOrder 0 tokens)
   then-goes (Fails fault) go v e = absurd (cc)
   then-goes Lost go v e = absurd (cc)
 
-  along-all : (n : ℕ) (stack : List Symbol) (at : ℕ) (rest : List TokenKind) (done : List Act) (w v : Work) → Translates n stack at rest done
+  pub along-all : (n : ℕ) (stack : List Symbol) (at : ℕ) (rest : List TokenKind) (done : List Act) (w v : Work) → Translates n stack at rest done
       → at + length rest ≡ length tokens → follow text tokens done w ≡ Goes v → Along stack at w → Along [] (length tokens) v
   along-all zero stack at rest done w v d size goes h = absurd d
   along-all (suc n) [] at rest done w v d size goes h =

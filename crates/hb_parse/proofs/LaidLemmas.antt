@@ -1,10 +1,8 @@
 -- What lies on a pile: tokens of nodes to come, and blocks in its trees.
-use Rattle.std.proofs.Common.{◌≡◌, ℕ, ◌+◌, ◌≤◌, List, [], ◌∷◌, ◌++◌, refl, ◌∙◌, ap, arith}
-use Rattle.hb_tree.specs.Tree.{Tree}
+use Rattle.std.proofs.Common.{◌≡◌, ℕ, ◌+◌, List, [], ◌∷◌, refl, arith}
 use Rattle.hb_draft.specs.Unfinished.{forest_of}
-use Rattle.hb_build.specs.declared.held.Spot.{Spot}
 use Rattle.hb_build.specs.Said.{Said}
-use Rattle.hb_build.specs.Pile.{Slot, Operand, Closed, Item, Argument, Own, Declaring, Word, Target, Called, OfClass, Named, Computed, Parameter, OfType, ParameterType, Block, Body, Setup, Script, items_on, below_items, arguments_on, below_arguments, below_parameters, below_types}
+use Rattle.hb_build.specs.Pile.{Slot, Operand, Closed, Item, Argument, Own, Declaring, Word, Target, Called, OfClass, Computed, Parameter, ParameterType, items_on, below_items, arguments_on, below_arguments, below_parameters, below_types}
 use Rattle.hb_parse.proofs.BlockCounts.{hit, blocks, blocks_in_all, blocks-more, blocks_of_setup, blocks_of_scripts}
 use Rattle.hb_parse.proofs.ApartLemmas.{Apart, IsSpot}
 

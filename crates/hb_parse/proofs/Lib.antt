@@ -18,3 +18,4 @@ pub mod HoldLemmas
 pub mod LaidLemmas
 pub mod OwnLemmas
 pub mod AlongLemmas
+pub mod DifferentLemmas

@@ -1,5 +1,5 @@
 -- Each action keeps it that the own tokens of nodes other than blocks begin at different bytes.
-use Rattle.std.proofs.Common.{◌≡◌, ℕ, pos, zero, suc, ◌+◌, ◌<◌, ◌≤◌, List, [], ◌∷◌, ◌++◌, Bool, true, false, cond, Option, Some, None, length, refl, ap, arith}
+use Rattle.std.proofs.Common.{◌≡◌, ℕ, pos, ◌+◌, ◌≤◌, List, [], ◌∷◌, ◌++◌, true, cond, Some, None, length, refl, ap, arith}
 use Rattle.hb_lex.specs.Literal.{value_of_number, value_of_text}
 use Rattle.hb_types.specs.declared.types.Ty.TheVariants as ty
 use Rattle.hb_tree.specs.Tree.{Tree, TNil, TSelf, TInt, TText, TVar, TNew, TAssign, TPrint, TToStr, TNot, TBinary, TIf, TWhile, TCall, TDef, TDefComputed, TDeclare, TDeclareComputed, TBlock}
@@ -11,7 +11,7 @@ use Rattle.hb_grammar.specs.declared.actions.Action.TheVariants as a
 use Rattle.hb_grammar.specs.declared.symbols.Symbol.TheVariants.{Action as A}
 use Rattle.hb_build.specs.declared.held.Spot.{Spot}
 use Rattle.hb_build.specs.Said.{Said}
-use Rattle.hb_build.specs.Pile.{Slot, Operand, Closed, Own, Declaring, Word, Target, Called, OfClass, Named, Computed, OfType, Block, Body, Setup, Script, items_on, below_items, arguments_on, below_arguments, parameters_on, below_parameters, types_on, below_types, is_full}
+use Rattle.hb_build.specs.Pile.{Slot, Operand, Closed, Own, Declaring, Word, Target, Called, OfClass, Named, Computed, OfType, Body, items_on, below_items, arguments_on, below_arguments, parameters_on, below_parameters, types_on, below_types, is_full}
 use Rattle.hb_build.specs.Acts.{Work, act, leaf, boolean, complete, closed, number, giving, typing, method_ty}
 use Rattle.hb_parse.proofs.SpareLemmas.{uses, setups_of}
 use Rattle.hb_parse.proofs.BlockCounts.{hit, hit-same, blocks, blocks_in_all, blocks_of_setup, scripts-more}
@@ -19,7 +19,7 @@ use Rattle.hb_parse.proofs.ApartLemmas.{Apart, IsSpot, apart-same, apart-node, a
 use Rattle.hb_parse.proofs.LaidLemmas.{IsLaid, AreSpots, coming, blocks_on, blocks_said, coming-items, coming-arguments, coming-parameters, coming-types, spots-items, spots-arguments, spots-parameters, spots-types, blocks-items, blocks-arguments, blocks-parameters, blocks-types}
 use Rattle.hb_parse.proofs.HoldLemmas.{Holds, holds-fails_if, holds-known, holds-complete, on-operand, on-closed, on-own, on-declaring, on-name, on-target, on-called, on-class, on-type, on-block, on-body, on-setup, on-script, on-method}
 
-abbrev none : ℕ → ℕ
+abbrev pub none : ℕ → ℕ
 none k = 0
 
 -- the nodes so far and those to come are apart
