@@ -13,8 +13,9 @@ use Rattle.hb_tree.specs.TreeAt.{forest_at, tree_of, tree_of_place, tree_down, t
 use Rattle.hb_tree.specs.Program.{IsExprNode}
 use Rattle.hb_draft.specs.Unfinished.{forest_of, setup_in, scripts_in}
 
--- ── one of two numbers ──
+-- ── two numbers that are one ──
 
+-- one where they are, and else nothing
 abbrev pub hit : ℕ → ℕ → ℕ
 hit a b = cond (nat_eq a b) 1 0
 
