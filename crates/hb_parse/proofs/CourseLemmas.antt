@@ -47,7 +47,7 @@ index-is [] n t e = absurd (cc)
 index-is (x ∷ tokens) zero t e = cc
 index-is (x ∷ tokens) (suc n) t e = index-is tokens n t e
 
-all-at : (P : Token → Type 0) (tokens : List Token) (n : ℕ) (t : Token) → All P tokens → slice_get tokens n ≡ Some t → P t
+pub all-at : (P : Token → Type 0) (tokens : List Token) (n : ℕ) (t : Token) → All P tokens → slice_get tokens n ≡ Some t → P t
 all-at P tokens n t all e =
     let P' = λ (x : Token). P x in
     subst P' (index-is tokens n t e) (all n t (slice_get_within tokens n t e))
@@ -219,7 +219,7 @@ two-in-order text at (x ∷ tokens) (suc n) zero s t ordered standing le e f = a
 two-in-order text at (x ∷ tokens) (suc n) (suc m) s t ordered standing le e f =
     two-in-order text x.to tokens n m s t ordered.1 (λ k d lt. standing (suc k) d (omega (arith, lt))) (omega (arith, le)) e f
 
-get-some : (tokens : List Token) (n : ℕ) → n < length tokens → (t : Token) × (slice_get tokens n ≡ Some t)
+pub get-some : (tokens : List Token) (n : ℕ) → n < length tokens → (t : Token) × (slice_get tokens n ≡ Some t)
 get-some [] n lt = absurd (omega (arith, lt))
 get-some (t ∷ tokens) zero lt = (t, refl)
 get-some (t ∷ tokens) (suc n) lt = get-some tokens n (omega (arith, lt))

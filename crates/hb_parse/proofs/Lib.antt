@@ -10,3 +10,12 @@ pub mod PieceLemmas
 pub mod CanonicalLemmas
 pub mod DeriveLemmas
 pub mod ProgramTextLemmas
+pub mod SpareLemmas
+pub mod LineLemmas
+pub mod BlockCounts
+pub mod ApartLemmas
+pub mod HoldLemmas
+pub mod LaidLemmas
+pub mod OwnLemmas
+pub mod AlongLemmas
+pub mod DifferentLemmas

@@ -2,9 +2,12 @@
 
 ghost use Rattle.std.specs.Prelude.{◌≡◌, ℕ, List};
 ghost use Rattle.hb_lex.specs.declared.spans.Token.{Token};
+ghost use Rattle.hb_lex.specs.Text.{HasTokens};
+ghost use Rattle.hb_tree.specs.Table.{Table};
 ghost use Rattle.hb_build.specs.declared.faults.ParseFail.{ParseFail};
 ghost use Rattle.hb_build.specs.Said.{Said};
-ghost use Rattle.hb_parse.specs.Text.{IsFault, Says};
+ghost use Rattle.hb_parse.specs.Places.{HasDifferentPlaces};
+ghost use Rattle.hb_parse.specs.Text.{IsFault, IsProgramOf, Says};
 
 /// Tokens of a text say one program or have one first fault, and never both.
 pub fn one_answer()
@@ -13,4 +16,10 @@ pub fn one_answer()
         → Says text tokens said → IsFault text tokens fault → ⊥ }
     ensures fault { (text : List ℕ) (tokens : List Token) (e f : ParseFail)
         → IsFault text tokens e → IsFault text tokens f → e ≡ f }
+{}
+
+/// Nodes other than blocks of the program that a text says have different places.
+pub fn different_places()
+    ensures { (text : List ℕ) (tokens : List Token) (program : Table)
+        → HasTokens text tokens → IsProgramOf text tokens program → HasDifferentPlaces program }
 {}

@@ -8,5 +8,5 @@ mod parser;
 pub use canonical::canonical_tokens;
 pub use hb_build::faults::{Limit, ParseFail};
 pub use hb_grammar::Wanted;
-pub use laws::one_answer;
+pub use laws::{different_places, one_answer};
 pub use parser::parse;
