@@ -18,7 +18,7 @@ use Rattle.hb_lex.proofs.Forms.{none_from, spelled_shape, kind_of_name, kind_of_
 use Rattle.hb_tree.specs.Spelling.{IsName, IsClassName, IsText, is_word, is_text_byte, keywords, type_words}
 use Rattle.hb_tree.specs.Canon.{escape, quoted}
 use Rattle.hb_tree.specs.Pieces.{word}
-use Rattle.hb_parse.proofs.SpellLemmas.{IsToken}
+use Rattle.hb_canonical.proofs.SpellLemmas.{IsToken}
 
 abbrev first : List ℕ → ℕ
 first bytes = get_or bytes 0 0
