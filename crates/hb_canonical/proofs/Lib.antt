@@ -6,3 +6,4 @@ pub mod PieceLemmas
 pub mod CanonicalLemmas
 pub mod DeriveLemmas
 pub mod ProgramTextLemmas
+pub mod PlainLemmas
