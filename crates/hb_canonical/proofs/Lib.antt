@@ -7,3 +7,5 @@ pub mod CanonicalLemmas
 pub mod DeriveLemmas
 pub mod ProgramTextLemmas
 pub mod PlainLemmas
+pub mod EffectLemmas
+pub mod ActionLemmas
