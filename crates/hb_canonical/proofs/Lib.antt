@@ -9,3 +9,5 @@ pub mod ProgramTextLemmas
 pub mod PlainLemmas
 pub mod EffectLemmas
 pub mod ActionLemmas
+pub mod ConstructLemmas
+pub mod PhraseLemmas
