@@ -11,3 +11,4 @@ pub mod EffectLemmas
 pub mod ActionLemmas
 pub mod ConstructLemmas
 pub mod PhraseLemmas
+pub mod OperandLemmas
