@@ -12,3 +12,4 @@ pub mod ActionLemmas
 pub mod ConstructLemmas
 pub mod PhraseLemmas
 pub mod OperandLemmas
+pub mod BlockLemmas
