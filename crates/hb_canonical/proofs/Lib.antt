@@ -13,3 +13,4 @@ pub mod ConstructLemmas
 pub mod PhraseLemmas
 pub mod OperandLemmas
 pub mod BlockLemmas
+pub mod MethodLemmas
