@@ -14,3 +14,5 @@ pub mod PhraseLemmas
 pub mod OperandLemmas
 pub mod BlockLemmas
 pub mod MethodLemmas
+pub mod RootLemmas
+pub mod SourceLemmas
