@@ -16,3 +16,4 @@ pub mod BlockLemmas
 pub mod MethodLemmas
 pub mod RootLemmas
 pub mod SourceLemmas
+pub mod DepthLemmas

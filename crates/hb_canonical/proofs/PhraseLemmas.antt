@@ -1,6 +1,6 @@
 -- What each sort of phrase does to the work, and what its deeds are: a way through symbols.
 use Rattle.std.proofs.Common.{◌≡◌, ℕ, zero, suc, ◌+◌, ◌≤◌, List, [], ◌∷◌, ◌++◌, length, map, Option, Some, None, refl, sym, ◌∙◌, ap, subst, inl, inr, arith, append_assoc}
-use Rattle.std.specs.Prelude.{◌⊎◌, slice_get}
+use Rattle.std.specs.Prelude.{◌⊎◌, IfSome, slice_get}
 use Rattle.std.specs.List.{AllByRecursion}
 use Rattle.std.proofs.lemmas.List.{append-nil}
 use Rattle.hb_lex.specs.declared.kinds.TokenKind.{TokenKind}
@@ -158,8 +158,7 @@ pub record Signatures (w : Work) (ds : List Deed) (v : Work) (es : List Deed) : 
 
 -- a block that is said fits in
 abbrev pub SetupFits : ℕ → Option Tree → Type 0
-SetupFits depth None = Unit {0}
-SetupFits depth (Some b) = depth + constructs b ≤ CONSTRUCTS_MAX
+SetupFits depth setup = IfSome setup (λ b. depth + constructs b ≤ CONSTRUCTS_MAX)
 
 abbrev pub ScriptsFit : ℕ → List (ℕ × Tree) → Type 0
 ScriptsFit depth scripts = AllByRecursion (λ script. depth + constructs script.1 ≤ CONSTRUCTS_MAX) scripts

@@ -5,6 +5,7 @@ use Rattle.hb_lex.specs.declared.kinds.TokenKind.{TokenKind}
 use Rattle.hb_lex.specs.declared.spans.Token.{Token}
 use Rattle.hb_types.specs.declared.types.Ty.TheVariants as ty
 use Rattle.hb_tree.specs.declared.limits.TheConstants.{CONSTRUCTS_MAX}
+use Rattle.hb_tree.specs.Tree.{Tree}
 use Rattle.hb_grammar.specs.declared.actions.Action.{Action}
 use Rattle.hb_grammar.specs.declared.symbols.Sort.{Sort}
 use Rattle.hb_grammar.specs.declared.symbols.Sort.TheVariants as g
@@ -15,10 +16,11 @@ use Rattle.hb_grammar.specs.Language.{Act, act as act_at, IsOneOf, Translates, H
 use Rattle.hb_build.specs.Said.{Said}
 use Rattle.hb_build.specs.Acts.{Work, Answer, Goes, Fails, Lost, nothing}
 use Rattle.hb_build.specs.Follow.{follow, act_in, and_then, spot_of, bytes_in, last_of}
-use Rattle.hb_canonical.specs.Deeds.{Deed, deeds_in, deeds_of, bare}
+use Rattle.hb_canonical.specs.Deeds.{Deed, deeds_in, deeds_of, bare, deepest}
 use Rattle.hb_canonical.proofs.PlainLemmas.{plain_all, plain_classes, plain_setup, plain_scripts, bare_all}
 use Rattle.hb_canonical.proofs.EffectLemmas.{Does, goes-same, later-same}
 use Rattle.hb_canonical.proofs.PhraseLemmas.{Goes_through, ClassesMore, SetupFits, ScriptsFit, Way, way-append}
+use Rattle.hb_canonical.proofs.DepthLemmas.{all-start}
 use Rattle.hb_canonical.proofs.OperandLemmas as operand
 use Rattle.hb_canonical.proofs.BlockLemmas as block
 use Rattle.hb_canonical.proofs.MethodLemmas as method
@@ -125,16 +127,27 @@ module _ (text : List ℕ) (tokens : List Token) where
         let h = way has.0 program 0 (kinds_of tokens) done nothing w has.1 built in
         (h.1, subst (λ (x : Work). ClassesMore nothing (bare (deeds_in text tokens done)) x h.1) h.3.0 h.2, h.3.1)
 
+    all : ClassesMore nothing (bare (deeds_in text tokens done)) w whole.0
+    all = whole.1
+
+    setup-same : all.setup ≡ w.said.setup
+    setup-same = sym (all.setup_is refl)
+
+    scripts-same : all.more ≡ w.said.scripts
+    scripts-same = sym all.scripts
+
     pub source-words : bare (deeds_in text tokens done) ≡ bare (deeds_of w.said)
     source-words =
-        let all : ClassesMore nothing (bare (deeds_in text tokens done)) w whole.0 = whole.1 in
         let s : Said = w.said in
-        let classes : all.first ≡ s.classes = sym all.classes in
-        let setup : all.setup ≡ s.setup = sym (all.setup_is refl) in
-        let scripts : all.more ≡ s.scripts = sym all.scripts in
         all.deeds s (later-same s)
         ∙ ap (λ es. plain_classes all.first (plain_setup s all.setup (plain_scripts s all.more es))) whole.2
-        ∙ ap (λ l. plain_classes l (plain_setup s all.setup (plain_scripts s all.more []))) classes
-        ∙ ap (λ o. plain_classes s.classes (plain_setup s o (plain_scripts s all.more []))) setup
-        ∙ ap (λ l. plain_classes s.classes (plain_setup s s.setup (plain_scripts s l []))) scripts
+        ∙ ap (λ l. plain_classes l (plain_setup s all.setup (plain_scripts s all.more []))) (sym all.classes)
+        ∙ ap (λ o. plain_classes s.classes (plain_setup s o (plain_scripts s all.more []))) setup-same
+        ∙ ap (λ l. plain_classes s.classes (plain_setup s s.setup (plain_scripts s l []))) scripts-same
         ∙ sym (bare_all s)
+
+    pub source-depth : deepest (deeds_of w.said) 0 ≤ CONSTRUCTS_MAX
+    source-depth =
+        all-start CONSTRUCTS_MAX w.said
+        (subst (λ (o : Option Tree). SetupFits 0 o) setup-same (all.fits_setup (omega arith)))
+        (subst (λ (l : List (ℕ × Tree)). ScriptsFit 0 l) scripts-same (all.fits_scripts (omega arith)))

@@ -2,5 +2,7 @@
 #![tactic(auto)]
 
 mod canonical;
+mod source;
 
 pub use canonical::canonical_tokens;
+pub use source::{source_depth, source_words};
