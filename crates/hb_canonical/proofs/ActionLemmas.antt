@@ -1,5 +1,5 @@
 -- What each action leaves on the pile, and what is known of the words that it numbers.
-use Rattle.std.proofs.Common.{◌≡◌, ℕ, pos, ◌+◌, ◌-◌, ◌≤◌, ◌<◌, List, [], ◌∷◌, ◌++◌, length, Bool, true, false, Option, Some, None, refl, sym, ◌∙◌, ap, subst, arith, position, get_or}
+use Rattle.std.proofs.Common.{◌≡◌, ℕ, pos, ◌+◌, ◌-◌, ◌≤◌, List, ◌∷◌, ◌++◌, length, Bool, false, Option, Some, None, refl, sym, ◌∙◌, ap, subst, arith, position, get_or}
 use Rattle.std.specs.Prelude.{slice_get, bytes_eq, nat_eq, nat_le}
 use Rattle.std.specs.List.{list_any}
 use Rattle.std.specs.Cmp.Lexicographic.{same_text}
@@ -9,24 +9,22 @@ use Rattle.std.proofs.lemmas.Bool.Decides.{nat_tests}
 use Rattle.hb_lex.specs.Literal.{value_of_number, value_of_text}
 use Rattle.hb_types.specs.declared.types.Ty.{Ty}
 use Rattle.hb_types.specs.declared.types.Ty.TheVariants as ty
-use Rattle.hb_types.specs.declared.types.MethodTy.{MethodTy}
 use Rattle.hb_types.specs.declared.types.TheConstants.{PARAMS_MAX}
 use Rattle.hb_tree.specs.declared.limits.TheConstants.{CONSTRUCTS_MAX, SCRIPTS_MAX, TYPES_MAX}
 use Rattle.hb_tree.specs.declared.node.Op.{Op}
-use Rattle.hb_tree.specs.Tree.{Tree, TNil, TTrue, TFalse, TSelf, TInt, TText, TVar, TNew, TAssign, TPrint, TToStr, TNot, TBinary, TIf, TWhile, TCall, TDef, TDefComputed, TDeclare, TDeclareComputed, TBlock, id_of}
+use Rattle.hb_tree.specs.Tree.{Tree, TNil, TSelf, TInt, TText, TVar, TNew, TAssign, TPrint, TToStr, TNot, TBinary, TIf, TWhile, TCall, TBlock}
 use Rattle.hb_tree.specs.Canon.{bytes_at}
-use Rattle.hb_draft.specs.Made.{Given, word_number}
+use Rattle.hb_draft.specs.Made.{word_number}
 use Rattle.hb_draft.specs.Words.{with_word}
 use Rattle.hb_draft.specs.Unfinished.{forest_of}
-use Rattle.hb_draft.proofs.Lists.{slice_get-last}
 use Rattle.hb_draft.proofs.WordLists.{with_word-begins, with_word-place}
 use Rattle.hb_grammar.specs.declared.actions.Action.TheVariants as a
 use Rattle.hb_build.specs.declared.held.Spot.{Spot}
 use Rattle.hb_build.specs.Said.{Said}
-use Rattle.hb_build.specs.Pile.{Slot, Operand, Closed, Item, Argument, Own, Declaring, Word, Target, Called, OfClass, Named, Computed, Parameter, OfType, ParameterType, Block, Body, Setup, Script, items_on, below_items, arguments_on, below_arguments, parameters_on, below_parameters, types_on, below_types, is_full, declaring}
-use Rattle.hb_build.specs.Acts.{Work, Answer, Goes, act, complete, opened, closed, push, numbered, number, with_known, class_of, begins, if_word, with_block, with_called, with_operand, with_method, with_own, with_declaring, boolean, method_ty, giving, typing}
-use Rattle.hb_canonical.specs.Deeds.{Deed, name, class, deed}
-use Rattle.hb_canonical.proofs.EffectLemmas.{Later, Inside, Moves, Does, begins-same, later-same, later-then, inside-same, inside-then, word-later, goes-same, goes-passed, moves-to, puts, at-pile}
+use Rattle.hb_build.specs.Pile.{Slot, Operand, Closed, Item, Argument, Own, Declaring, Word, Target, Called, OfClass, Named, Computed, Parameter, OfType, ParameterType, Block, Body, Setup, Script, items_on, below_items, arguments_on, below_arguments, parameters_on, types_on, is_full, declaring}
+use Rattle.hb_build.specs.Acts.{Work, Goes, complete, closed, push, numbered, number, with_known, class_of, begins, if_word, with_block, with_called, with_operand, boolean}
+use Rattle.hb_canonical.specs.Deeds.{Deed}
+use Rattle.hb_canonical.proofs.EffectLemmas.{Later, Inside, Moves, Does, begins-same, later-then, inside-same, inside-then, word-later, goes-same, goes-passed, moves-to, puts, at-pile}
 
 not_full : (d : ℕ) → nat_le CONSTRUCTS_MAX d ≡ false → d + 1 ≤ CONSTRUCTS_MAX
 not_full d h = grind (arith, nat_tests)
@@ -104,13 +102,14 @@ module _ (w : Work) (ds : List Deed) (v : Work) (es : List Deed) where
 
   numbers : (pile : ℕ → List Slot) (bytes : List ℕ) (u : Work) → u ≡ record (numbered bytes w) { pile = pile (number bytes w) } → Goes u ≡ Goes v → Numbers pile bytes
   numbers pile bytes u is e =
-      let same : v ≡ record (numbered bytes w) { pile = pile (number bytes w) } = sym (goes-same e) ∙ is in
-      (
+      let same : v ≡ record (numbered bytes w) { pile = pile (number bytes w) } = sym (goes-same e) ∙ is in (
         number bytes w,
         subst (λ (x : Work). Moves w.said x (pile (number bytes w)) w.depth) (sym same) (record {
           inside = record {
             later = record { classes = begins-same w.said.classes; names = with_word-begins w.said.names bytes; texts = begins-same w.said.texts; bodies = begins-same w.said.bodies; types = begins-same w.said.types };
-            classes = refl; setup = refl; scripts = refl;
+            classes = refl;
+            setup = refl;
+            scripts = refl;
           };
           pile_is = refl;
           depth_is = refl;
@@ -218,9 +217,10 @@ module _ (w : Work) (ds : List Deed) (v : Work) (es : List Deed) where
       let m : Moves u.said v (Operand (TText (length w.said.places) x) ∷ w.pile) w.depth = puts d.spot (λ id. TText id x) Operand w.pile u v (goes-passed _ _ _ v d.goes).1 in
       let mine : Inside w.said u.said = record {
         later = record { classes = begins-same w.said.classes; names = begins-same w.said.names; texts = with_word-begins w.said.texts value; bodies = begins-same w.said.bodies; types = begins-same w.said.types };
-        classes = refl; setup = refl; scripts = refl;
-      } in
-      (
+        classes = refl;
+        setup = refl;
+        scripts = refl;
+      } in (
         x,
         record { inside = inside-then mine m.inside; pile_is = m.pile_is; depth_is = m.depth_is },
         λ s g. word-later (with_word w.said.texts value) s.texts x value (later-then m.inside.later g).texts (with_word-place w.said.texts value),

@@ -1,23 +1,21 @@
 -- The alternatives of blocks and arguments: what they do to the work, and what their deeds are.
-use Rattle.std.proofs.Common.{◌≡◌, ℕ, ◌+◌, ◌-◌, ◌≤◌, List, [], ◌∷◌, ◌++◌, length, refl, sym, ◌∙◌, ap, arith, max, append_assoc}
+use Rattle.std.proofs.Common.{◌≡◌, ◌+◌, ◌-◌, ◌≤◌, List, [], ◌∷◌, ◌++◌, length, refl, sym, ◌∙◌, ap, arith, max, append_assoc}
 use Rattle.std.proofs.lemmas.List.{append-nil}
 use Rattle.hb_tree.specs.declared.limits.TheConstants.{CONSTRUCTS_MAX}
-use Rattle.hb_tree.specs.Tree.{Tree, TBlock, TIf, TWhile, Forest}
+use Rattle.hb_tree.specs.Tree.{Tree, TBlock, TIf, TWhile}
 use Rattle.hb_draft.specs.Unfinished.{forest_of}
 use Rattle.hb_grammar.specs.declared.actions.Action.{Action}
 use Rattle.hb_grammar.specs.declared.actions.Action.TheVariants as a
-use Rattle.hb_grammar.specs.declared.symbols.Sort.{Sort}
 use Rattle.hb_grammar.specs.declared.symbols.Sort.TheVariants as g
-use Rattle.hb_grammar.specs.declared.symbols.Symbol.TheVariants.{Token as T, Phrase as N, Action as A}
-use Rattle.hb_build.specs.Said.{Said}
+use Rattle.hb_grammar.specs.declared.symbols.Symbol.TheVariants.{Phrase as N, Action as A}
 use Rattle.hb_build.specs.Pile.{Slot, Operand, Closed, Item, Argument, Own, Block, items_on, below_items, arguments_on, below_arguments}
 use Rattle.hb_build.specs.Acts.{Work}
 use Rattle.hb_canonical.specs.Deeds.{Deed, plain}
 use Rattle.hb_canonical.proofs.PlainLemmas.{plainly, plain_each}
-use Rattle.hb_canonical.proofs.ConstructLemmas.{constructs, constructs_all, shielded, enclosed, enclosed-most, max-fits, shielded-least}
-use Rattle.hb_canonical.proofs.EffectLemmas.{Later, Moves, Does, later-then, still, next, anew}
+use Rattle.hb_canonical.proofs.ConstructLemmas.{constructs, constructs_all, enclosed-most, max-fits, shielded-least}
+use Rattle.hb_canonical.proofs.EffectLemmas.{Moves, Does, later-then, still, next, anew}
 use Rattle.hb_canonical.proofs.ActionLemmas.{does-open, does-close, does-open_word, does-begin_block, does-end_block, does-add_item, does-add_argument, does-put_if, does-put_while}
-use Rattle.hb_canonical.proofs.PhraseLemmas.{Results, Pushes, Closes, Blocks, Elses, Lists, ItemsMore, ArgumentsMore, ArgumentsWhole, Way}
+use Rattle.hb_canonical.proofs.PhraseLemmas.{Pushes, Closes, Blocks, Elses, Lists, ItemsMore, ArgumentsMore, Way}
 
 -- ── items and arguments ──
 
@@ -95,8 +93,7 @@ module _ (w : Work) (ds : List Deed) (on : Work → List Deed → Type 0) where
       let a2 : v2.depth ≡ v1.depth = given.moves.depth_is in
       let a3 : v3.depth ≡ v2.depth - 1 = m3.depth_is in
       let all = given.fits (omega arith) in
-      let most = enclosed-most (forest_of given.more) (constructs_all (forest_of given.more)) in
-      (
+      let most = enclosed-most (forest_of given.more) (constructs_all (forest_of given.more)) in (
         v3,
         e3,
         record {
@@ -126,8 +123,7 @@ module _ (w : Work) (ds : List Deed) (on : Work → List Deed → Type 0) where
   block (v1, e1, d, (v2, e2, items, k)) =
       let m = does-begin_block w ds v1 e1 d in
       let a1 : v1.depth ≡ w.depth = m.depth_is in
-      let mine : items_on v2.pile ≡ items.more = items.on_is ∙ ap (λ p. items_on p ++ items.more) m.pile_is in
-      (
+      let mine : items_on v2.pile ≡ items.more = items.on_is ∙ ap (λ p. items_on p ++ items.more) m.pile_is in (
         v2,
         e2,
         record {
@@ -192,8 +188,7 @@ module _ (w : Work) (ds : List Deed) (on : Work → List Deed → Type 0) where
       let one = b.fits (omega arith) in
       let two = e.fits (omega arith) in
       let blocks = max-fits (w.depth + 1) (constructs first) (constructs e.tree) CONSTRUCTS_MAX (omega arith) (omega arith) in
-      let all = max-fits (w.depth + 1) (constructs r.tree) (max (constructs first) (constructs e.tree)) CONSTRUCTS_MAX (omega arith) blocks in
-      (
+      let all = max-fits (w.depth + 1) (constructs r.tree) (max (constructs first) (constructs e.tree)) CONSTRUCTS_MAX (omega arith) blocks in (
         v5,
         e5,
         record {
@@ -226,8 +221,7 @@ module _ (w : Work) (ds : List Deed) (on : Work → List Deed → Type 0) where
       let least = shielded-least 0 r.tree (constructs r.tree) in
       let condition = r.fits (omega arith) in
       let body = c.fits (omega arith) in
-      let all = max-fits (w.depth + 1) (constructs r.tree) (constructs c.tree) CONSTRUCTS_MAX (omega arith) (omega arith) in
-      (
+      let all = max-fits (w.depth + 1) (constructs r.tree) (constructs c.tree) CONSTRUCTS_MAX (omega arith) (omega arith) in (
         v5,
         e5,
         record {

@@ -1,27 +1,20 @@
 -- What each action does where it goes on.
-use Rattle.std.proofs.Common.{◌≡◌, ℕ, ◌+◌, ◌-◌, ◌≤◌, List, [], ◌∷◌, ◌++◌, length, Bool, true, false, Option, Some, None, refl, sym, ◌∙◌, ap, subst, arith, append_assoc, position}
-use Rattle.std.specs.Prelude.{slice_get, bytes_eq, nat_le, if◌then◌else◌}
+use Rattle.std.proofs.Common.{◌≡◌, ℕ, List, [], ◌∷◌, ◌++◌, length, Bool, true, false, Option, Some, None, refl, sym, ◌∙◌, ap, subst, append_assoc}
+use Rattle.std.specs.Prelude.{slice_get, if◌then◌else◌}
 use Rattle.std.specs.Option.{unwrap_or}
 use Rattle.std.proofs.lemmas.List.{append-nil}
-use Rattle.std.proofs.lemmas.Bool.Decides.{nat_tests}
-use Rattle.hb_types.specs.declared.types.MethodTy.{MethodTy}
-use Rattle.hb_tree.specs.declared.limits.TheConstants.{CONSTRUCTS_MAX}
 use Rattle.hb_tree.specs.Tree.{Tree}
 use Rattle.hb_tree.specs.Counts.{height}
 use Rattle.hb_tree.specs.Grows.{BeginsWith}
 use Rattle.hb_tree.specs.Canon.{bytes_at}
 use Rattle.hb_tree.proofs.Lists.{slice_get-begins}
-use Rattle.hb_draft.specs.Made.{Given, word_number}
-use Rattle.hb_draft.specs.Words.{with_word}
-use Rattle.hb_draft.proofs.WordLists.{with_word-begins, with_word-place}
 use Rattle.hb_grammar.specs.declared.actions.Action.{Action}
-use Rattle.hb_grammar.specs.declared.actions.Action.TheVariants as a
 use Rattle.hb_build.specs.declared.held.Spot.{Spot}
 use Rattle.hb_build.specs.declared.faults.ParseFail.{ParseFail}
 use Rattle.hb_build.specs.Needs.{needs}
 use Rattle.hb_build.specs.Said.{Said}
-use Rattle.hb_build.specs.Pile.{Slot, Own, Declaring, Word, Called, OfClass, Named, Parameter, Block, Body, has_too_many_nodes}
-use Rattle.hb_build.specs.Acts.{Work, Answer, Goes, Fails, Lost, act, complete, passed, unless, fails_if, opened, closed, push, with_known}
+use Rattle.hb_build.specs.Pile.{Slot, has_too_many_nodes}
+use Rattle.hb_build.specs.Acts.{Work, Answer, Goes, act, complete, passed, unless, fails_if}
 use Rattle.hb_canonical.specs.Deeds.{Deed, deed, looked_at, is_parenthesis}
 
 -- ── lists that go on ──
@@ -119,7 +112,9 @@ puts q make slot pile u v h =
     (record {
       inside = record {
         later = record { classes = begins-same u.said.classes; names = begins-same u.said.names; texts = begins-same u.said.texts; bodies = begins-same u.said.bodies; types = begins-same u.said.types };
-        classes = refl; setup = refl; scripts = refl;
+        classes = refl;
+        setup = refl;
+        scripts = refl;
       };
       pile_is = refl;
       depth_is = refl;

@@ -1,12 +1,11 @@
 -- The alternatives of methods, parameters and types: what they do to the work, and what their deeds are.
-use Rattle.std.proofs.Common.{◌≡◌, ℕ, zero, suc, ◌+◌, ◌-◌, ◌≤◌, List, [], ◌∷◌, ◌++◌, length, take, Bool, true, false, Option, Some, None, refl, sym, ◌∙◌, ap, subst, arith, max, append_assoc, length-append}
+use Rattle.std.proofs.Common.{◌≡◌, ℕ, zero, suc, ◌+◌, ◌-◌, ◌≤◌, List, [], ◌∷◌, ◌++◌, length, take, Bool, refl, sym, ◌∙◌, ap, subst, arith, append_assoc, length-append}
 use Rattle.std.specs.Prelude.{slice_get}
 use Rattle.std.proofs.lemmas.List.{append-nil}
 use Rattle.hb_types.specs.declared.types.Ty.{Ty}
 use Rattle.hb_types.specs.declared.types.Ty.TheVariants as ty
 use Rattle.hb_types.specs.declared.types.MethodTy.{MethodTy}
 use Rattle.hb_types.specs.declared.types.TheConstants.{PARAMS_MAX}
-use Rattle.hb_types.specs.Types.{params_of as param_types_of}
 use Rattle.hb_tree.specs.declared.limits.TheConstants.{CONSTRUCTS_MAX}
 use Rattle.hb_tree.specs.Tree.{Tree, TDef, TDefComputed, TDeclare, TDeclareComputed, id_of}
 use Rattle.hb_tree.proofs.Lists.{slice_get-begins}
@@ -14,17 +13,17 @@ use Rattle.hb_draft.specs.Made.{Given}
 use Rattle.hb_draft.proofs.Lists.{slice_get-last}
 use Rattle.hb_grammar.specs.declared.actions.Action.TheVariants as a
 use Rattle.hb_grammar.specs.declared.symbols.Sort.TheVariants as g
-use Rattle.hb_grammar.specs.declared.symbols.Symbol.TheVariants.{Token as T, Phrase as N, Action as A}
+use Rattle.hb_grammar.specs.declared.symbols.Symbol.TheVariants.{Phrase as N, Action as A}
 use Rattle.hb_build.specs.declared.held.Spot.{Spot}
 use Rattle.hb_build.specs.Said.{Said}
-use Rattle.hb_build.specs.Pile.{Slot, Operand, Closed, Own, Declaring, OfClass, Named, Computed, Parameter, OfType, ParameterType, Body, parameters_on, below_parameters, types_on, below_types}
+use Rattle.hb_build.specs.Pile.{Slot, Operand, Closed, Own, Declaring, OfClass, Parameter, OfType, ParameterType, Body, parameters_on, below_parameters, types_on, below_types}
 use Rattle.hb_build.specs.Acts.{Work, Goes, closed, define, declare, giving, typing, method_ty, filled}
 use Rattle.hb_canonical.specs.Deeds.{Deed, deed, plain, name, class, type_deed}
 use Rattle.hb_canonical.proofs.PlainLemmas.{plainly, plain_names, plain_types, plain_parameters, plain_signature}
 use Rattle.hb_canonical.proofs.ConstructLemmas.{constructs, shielded, max-fits, shielded-least}
 use Rattle.hb_canonical.proofs.EffectLemmas.{Later, Inside, Moves, Does, begins-same, inside-then, later-then, still, next, anew, puts, at-pile}
 use Rattle.hb_canonical.proofs.ActionLemmas.{does-open, does-close, does-open_word, does-hold_declare, does-hold_class, does-hold_class_type, does-hold_type, does-hold_parameter, does-name_method, does-compute_method, does-begin_body, does-add_parameter_type}
-use Rattle.hb_canonical.proofs.PhraseLemmas.{Results, Pushes, Closes, Blocks, Head, Plain, Computes, slot_of, head_deeds, head_constructs, Methods, MethodNames, ParametersMore, TypeWords, TypesMore, Signatures, Way}
+use Rattle.hb_canonical.proofs.PhraseLemmas.{Head, Plain, Computes, slot_of, head_deeds, head_constructs, ParametersMore, TypesMore, Way}
 use Rattle.hb_canonical.proofs.BlockLemmas.{block_ends}
 
 -- ── definitions and declarations by their method ──
@@ -76,13 +75,10 @@ below_no_types (Computes c e) pile = refl
 -- ── what completes them ──
 
 module _ (w : Work) (ds : List Deed) (v : Work) (es : List Deed) where
-  gives : List ℕ → Tree → Given
-  gives params b = record { def = length w.said.places; block = id_of b; params = params }
-
-  defined : (params : List ℕ) (b : Tree) (head : Head) (q : Spot) (pile : List Slot) (u : Work) → u ≡ closed (record w { pile = u.pile }) → define params b (slot_of head ∷ Own q ∷ pile) u ≡ Goes v
+  defined : (params : List ℕ) (b : Tree) (head : Head) (q : Spot) (pile : List Slot) (u : Work) → define params b (slot_of head ∷ Own q ∷ pile) u ≡ Goes v
       → Moves (giving params b u).said v (Operand (def_tree head (length u.said.places) (length u.said.bodies) b) ∷ pile) u.depth
-  defined params b (Plain c m) q pile u same h = puts q (λ id. TDef id c m (length u.said.bodies) b) Operand pile (giving params b u) v h
-  defined params b (Computes c e) q pile u same h = puts q (λ id. TDefComputed id c e (length u.said.bodies) b) Operand pile (giving params b u) v h
+  defined params b (Plain c m) q pile u h = puts q (λ id. TDef id c m (length u.said.bodies) b) Operand pile (giving params b u) v h
+  defined params b (Computes c e) q pile u h = puts q (λ id. TDefComputed id c e (length u.said.bodies) b) Operand pile (giving params b u) v h
 
   does-put_def : (b : Tree) (over : List Slot) (head : Head) (q : Spot) (pile : List Slot) → w.pile ≡ Closed b ∷ Body ∷ over → below_parameters over ≡ slot_of head ∷ Own q ∷ pile → Does a.PutDef w ds v es
       → Moves w.said v (Operand (def_tree head (length w.said.places) (length w.said.bodies) b) ∷ pile) (w.depth - 1)
@@ -92,12 +88,13 @@ module _ (w : Work) (ds : List Deed) (v : Work) (es : List Deed) where
       let params : List ℕ = parameters_on over in
       let given : Given = record { def = length w.said.places; block = id_of b; params = params } in
       let h = subst (λ (x : List Slot). define params b x u ≡ Goes v) below (at-pile a.PutDef d.spot d.bytes w v (Closed b ∷ Body ∷ over) is d.goes) in
-      let m = defined params b head q pile u refl h in
+      let m = defined params b head q pile u h in
       let mine : Inside w.said (giving params b u).said = record {
         later = record { classes = begins-same w.said.classes; names = begins-same w.said.names; texts = begins-same w.said.texts; bodies = (given ∷ [], refl); types = begins-same w.said.types };
-        classes = refl; setup = refl; scripts = refl;
-      } in
-      (
+        classes = refl;
+        setup = refl;
+        scripts = refl;
+      } in (
         record { inside = inside-then mine m.inside; pile_is = m.pile_is; depth_is = m.depth_is },
         λ s rest later.
             ap (λ o. plain_parameters s o rest) (slice_get-begins (w.said.bodies ++ given ∷ []) s.bodies (later-then m.inside.later later).bodies (length w.said.bodies) given (slice_get-last w.said.bodies given)),
@@ -125,9 +122,10 @@ module _ (w : Work) (ds : List Deed) (v : Work) (es : List Deed) where
       let m = declared type asks head q pile u h in
       let mine : Inside w.said (typing type u).said = record {
         later = record { classes = begins-same w.said.classes; names = begins-same w.said.names; texts = begins-same w.said.texts; bodies = begins-same w.said.bodies; types = (site ∷ [], refl) };
-        classes = refl; setup = refl; scripts = refl;
-      } in
-      (
+        classes = refl;
+        setup = refl;
+        scripts = refl;
+      } in (
         record { inside = inside-then mine m.inside; pile_is = m.pile_is; depth_is = m.depth_is },
         λ s rest later.
             ap (λ o. plain_signature s o rest) (slice_get-begins (w.said.types ++ site ∷ []) s.types (later-then m.inside.later later).types (length w.said.types) site (slice_get-last w.said.types site))
@@ -142,8 +140,7 @@ module _ (w : Work) (ds : List Deed) (on : Work → List Deed → Type 0) where
       let h = does-hold_class w ds v1 e1 d in
       let m1 : Moves w.said v1 (OfClass h.0 d.spot ∷ w.pile) w.depth = h.1 in
       let r = f h.0 d.spot w.pile m1.pile_is in
-      let a1 : v1.depth ≡ w.depth = m1.depth_is in
-      (
+      let a1 : v1.depth ≡ w.depth = m1.depth_is in (
         v2,
         e2,
         record {
@@ -204,8 +201,7 @@ module _ (w : Work) (ds : List Deed) (on : Work → List Deed → Type 0) where
   pub one_parameter : Way (A a.HoldParameter ∷ N g.MoreParameters ∷ []) w ds on → (v : Work) × (es : List Deed) × ParametersMore w ds v es × on v es
   one_parameter (v1, e1, d, (v2, e2, more, k)) =
       let h = does-hold_parameter w ds v1 e1 d in
-      let m1 : Moves w.said v1 (Parameter h.0 ∷ w.pile) w.depth = h.1 in
-      (
+      let m1 : Moves w.said v1 (Parameter h.0 ∷ w.pile) w.depth = h.1 in (
         v2,
         e2,
         record {
@@ -238,8 +234,7 @@ module _ (w : Work) (ds : List Deed) (on : Work → List Deed → Type 0) where
       let room : length (types_on w.pile) + 1 ≤ PARAMS_MAX = h.1 in
       let a1 : v1.depth ≡ w.depth = y.moves.depth_is in
       let a2 : v2.depth ≡ v1.depth = m2.depth_is in
-      let grown : types_on v2.pile ≡ types_on w.pile ++ y.type ∷ [] = ap types_on m2.pile_is in
-      (
+      let grown : types_on v2.pile ≡ types_on w.pile ++ y.type ∷ [] = ap types_on m2.pile_is in (
         v3,
         e3,
         record {
@@ -265,8 +260,7 @@ module _ (w : Work) (ds : List Deed) (on : Work → List Deed → Type 0) where
       let a2 : v2.depth ≡ v1.depth = types.moves.depth_is in
       let a3 : v3.depth ≡ v2.depth - 1 = m3.depth_is in
       let old : types_on v1.pile ≡ types_on w.pile = ap types_on m1.pile_is in
-      let new : types_on v3.pile ≡ types_on v2.pile = ap types_on m3.pile_is in
-      (
+      let new : types_on v3.pile ≡ types_on v2.pile = ap types_on m3.pile_is in (
         v4,
         e4,
         record {
@@ -300,8 +294,7 @@ module _ (w : Work) (ds : List Deed) (on : Work → List Deed → Type 0) where
       let a1 : v1.depth ≡ w.depth = m1.depth_is in
       let a2 : v2.depth ≡ v1.depth = m.moves.depth_is in
       let a3 : v3.depth ≡ v2.depth = sg.moves.depth_is in
-      let room : v2.depth + 1 ≤ CONSTRUCTS_MAX = sg.room in
-      (
+      let room : v2.depth + 1 ≤ CONSTRUCTS_MAX = sg.room in (
         v4,
         e4,
         record {
@@ -345,8 +338,7 @@ module _ (w : Work) (ds : List Deed) (on : Work → List Deed → Type 0) where
       let a4 : v4.depth ≡ v3.depth = ps.moves.depth_is in
       let a5 : v5.depth ≡ v4.depth - 1 = m5.depth_is in
       let a6 : v6.depth ≡ v5.depth = m6.depth_is in
-      let a8 : v8.depth ≡ v6.depth = c.moves.depth_is in
-      (
+      let a8 : v8.depth ≡ v6.depth = c.moves.depth_is in (
         v9,
         e9,
         record {

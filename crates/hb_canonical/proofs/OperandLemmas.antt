@@ -1,28 +1,24 @@
 -- The alternatives of expressions, but for methods: what they do to the work, and what their deeds are.
-use Rattle.std.proofs.Common.{◌≡◌, ℕ, pos, ◌+◌, ◌-◌, ◌≤◌, List, [], ◌∷◌, ◌++◌, length, Bool, true, false, refl, sym, ◌∙◌, ap, arith, max}
-use Rattle.std.specs.Prelude.{nat_lt, if◌then◌else◌}
-use Rattle.std.specs.Fmt.{signed_decimal}
-use Rattle.std.proofs.lemmas.Bool.Decides.{nat_tests}
-use Rattle.hb_lex.specs.Literal.{value_of_number, value_of_text}
-use Rattle.hb_lex.specs.declared.kinds.TokenKind.TheVariants as k
+use Rattle.std.proofs.Common.{◌≡◌, ℕ, pos, ◌+◌, ◌-◌, ◌≤◌, List, [], ◌∷◌, ◌++◌, length, true, false, refl, sym, ◌∙◌, ap, arith}
+use Rattle.hb_lex.specs.Literal.{value_of_number}
 use Rattle.hb_tree.specs.declared.limits.TheConstants.{CONSTRUCTS_MAX}
 use Rattle.hb_tree.specs.declared.node.Op.{Op}
 use Rattle.hb_tree.specs.declared.node.Op.TheVariants as op
-use Rattle.hb_tree.specs.Tree.{Tree, TNil, TTrue, TFalse, TSelf, TInt, TText, TVar, TNew, TAssign, TPrint, TToStr, TNot, TBinary, TIf, TWhile, TCall}
-use Rattle.hb_tree.specs.Canon.{bytes_at, quoted, level, op_level, least_left, least_right}
+use Rattle.hb_tree.specs.Tree.{Tree, TNil, TTrue, TFalse, TSelf, TInt, TText, TVar, TNew, TAssign, TPrint, TToStr, TNot, TBinary, TCall}
+use Rattle.hb_tree.specs.Canon.{quoted, op_level, least_left, least_right}
 use Rattle.hb_draft.specs.Unfinished.{forest_of}
 use Rattle.hb_grammar.specs.declared.actions.Action.TheVariants as a
 use Rattle.hb_grammar.specs.declared.symbols.Sort.{Sort}
 use Rattle.hb_grammar.specs.declared.symbols.Sort.TheVariants as g
-use Rattle.hb_grammar.specs.declared.symbols.Symbol.TheVariants.{Token as T, Phrase as N, Action as A}
+use Rattle.hb_grammar.specs.declared.symbols.Symbol.TheVariants.{Phrase as N, Action as A}
 use Rattle.hb_build.specs.declared.held.Spot.{Spot}
 use Rattle.hb_build.specs.Said.{Said}
-use Rattle.hb_build.specs.Pile.{Slot, Operand, Closed, Own, Word, Target, Called, OfClass, arguments_on, below_arguments}
+use Rattle.hb_build.specs.Pile.{Slot, Operand, Own, Word, Target, Called, OfClass, arguments_on, below_arguments}
 use Rattle.hb_build.specs.Acts.{Work}
 use Rattle.hb_canonical.specs.Deeds.{Deed, deed, plain, name, class}
 use Rattle.hb_canonical.proofs.PlainLemmas.{plainly, plain_each}
 use Rattle.hb_canonical.proofs.ConstructLemmas.{constructs, constructs_all, shielded, enclosed, max-fits, shielded-least, shielded-most, shielded-more}
-use Rattle.hb_canonical.proofs.EffectLemmas.{Later, Moves, Does, later-then, still, next, anew}
+use Rattle.hb_canonical.proofs.EffectLemmas.{Moves, Does, later-then, still, next, anew}
 use Rattle.hb_canonical.proofs.ActionLemmas.{does-open, does-close, does-open_word, does-open_assign, does-hold_operator, does-hold_str, does-hold_name, does-hold_call, does-hold_class, does-put_nil, does-put_boolean, does-put_self, does-put_number, does-put_text, does-put_variable, does-put_new, does-put_assign, does-put_print, does-put_not, does-put_str, does-put_binary, does-put_call}
 use Rattle.hb_canonical.proofs.PhraseLemmas.{Results, Pushes, Extends, Follows, ArgumentsWhole, Way}
 
@@ -207,8 +203,7 @@ module _ (w : Work) (ds : List Deed) (on : Work → List Deed → Type 0) where
       let a2 : v2.depth ≡ v1.depth = r.moves.depth_is in
       let back : v2.depth - 1 ≡ w.depth = omega arith in
       let all = r.fits (omega arith) in
-      let least = shielded-least 0 r.tree (constructs r.tree) in
-      (
+      let least = shielded-least 0 r.tree (constructs r.tree) in (
         v3,
         e3,
         record {
@@ -249,8 +244,7 @@ module _ (w : Work) (ds : List Deed) (on : Work → List Deed → Type 0) where
   primary_name (v1, e1, d, (v2, e2, c, k)) =
       let h = does-hold_name w ds v1 e1 d in
       let m1 : Moves w.said v1 (Word h.0 d.spot ∷ w.pile) w.depth = h.1 in
-      let m2 = does-put_variable v1 e1 v2 e2 h.0 d.spot w.pile m1.pile_is c in
-      (
+      let m2 = does-put_variable v1 e1 v2 e2 h.0 d.spot w.pile m1.pile_is c in (
         v2,
         e2,
         record {
@@ -279,8 +273,7 @@ module _ (w : Work) (ds : List Deed) (on : Work → List Deed → Type 0) where
 
   pub text : Way (A a.PutText ∷ []) w ds on → Way (N g.Value ∷ []) w ds on
   text (v, es, d, k) =
-      let h = does-put_text w ds v es d in
-      (
+      let h = does-put_text w ds v es d in (
         v,
         es,
         record {
@@ -296,8 +289,7 @@ module _ (w : Work) (ds : List Deed) (on : Work → List Deed → Type 0) where
   made (v1, e1, d, (v2, e2, c, k)) =
       let h = does-hold_class w ds v1 e1 d in
       let m1 : Moves w.said v1 (OfClass h.0 d.spot ∷ w.pile) w.depth = h.1 in
-      let m2 = does-put_new v1 e1 v2 e2 h.0 d.spot w.pile m1.pile_is c in
-      (
+      let m2 = does-put_new v1 e1 v2 e2 h.0 d.spot w.pile m1.pile_is c in (
         v2,
         e2,
         record {
@@ -320,8 +312,7 @@ module _ (w : Work) (ds : List Deed) (on : Work → List Deed → Type 0) where
       let back : v2.depth - 1 ≡ w.depth = omega arith in
       let all = r.fits (omega arith) in
       let least = shielded-least 0 r.tree (constructs r.tree) in
-      let most = shielded-most 5 r.tree (constructs r.tree) in
-      (
+      let most = shielded-most 5 r.tree (constructs r.tree) in (
         v3,
         e3,
         record {
@@ -347,8 +338,7 @@ module _ (w : Work) (ds : List Deed) (on : Work → List Deed → Type 0) where
       let a3 : v3.depth ≡ v2.depth - 1 = m3.depth_is in
       let back : v3.depth ≡ w.depth = omega arith in
       let all = r.fits (omega arith) in
-      let least = shielded-least 0 r.tree (constructs r.tree) in
-      (
+      let least = shielded-least 0 r.tree (constructs r.tree) in (
         v4,
         e4,
         record {

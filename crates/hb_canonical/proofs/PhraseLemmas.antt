@@ -1,14 +1,11 @@
 -- What each sort of phrase does to the work, and what its deeds are: a way through symbols.
-use Rattle.std.proofs.Common.{◌≡◌, ℕ, zero, suc, ◌+◌, ◌≤◌, List, [], ◌∷◌, ◌++◌, length, map, Option, Some, None, refl, sym, ◌∙◌, ap, subst, inl, inr, arith, append_assoc}
-use Rattle.std.specs.Prelude.{◌⊎◌, IfSome, slice_get}
+use Rattle.std.proofs.Common.{◌≡◌, ℕ, ◌+◌, ◌≤◌, List, [], ◌∷◌, ◌++◌, length, Option, None}
+use Rattle.std.specs.Prelude.{IfSome}
 use Rattle.std.specs.List.{AllByRecursion}
-use Rattle.std.proofs.lemmas.List.{append-nil}
-use Rattle.hb_lex.specs.declared.kinds.TokenKind.{TokenKind}
-use Rattle.hb_lex.specs.declared.spans.Token.{Token}
 use Rattle.hb_types.specs.declared.types.Ty.{Ty}
 use Rattle.hb_types.specs.declared.types.TheConstants.{PARAMS_MAX}
 use Rattle.hb_tree.specs.declared.limits.TheConstants.{CONSTRUCTS_MAX}
-use Rattle.hb_tree.specs.Tree.{Tree, TBlock, TDef, TDefComputed, TDeclare, TDeclareComputed, Forest}
+use Rattle.hb_tree.specs.Tree.{Tree, TBlock, Forest}
 use Rattle.hb_draft.specs.Unfinished.{forest_of}
 use Rattle.hb_grammar.specs.declared.actions.Action.{Action}
 use Rattle.hb_grammar.specs.declared.actions.Action.TheVariants as a
@@ -18,7 +15,7 @@ use Rattle.hb_grammar.specs.declared.symbols.Symbol.{Symbol}
 use Rattle.hb_grammar.specs.declared.symbols.Symbol.TheVariants.{Token as T, Phrase as N, Action as A}
 use Rattle.hb_build.specs.declared.held.Spot.{Spot}
 use Rattle.hb_build.specs.Said.{Said}
-use Rattle.hb_build.specs.Pile.{Slot, Operand, Closed, Own, Word, OfClass, Named, Computed, OfType, Block, items_on, below_items, arguments_on, below_arguments, parameters_on, below_parameters, types_on, below_types}
+use Rattle.hb_build.specs.Pile.{Slot, Operand, Closed, Word, OfClass, Named, Computed, OfType, Block, items_on, below_items, arguments_on, below_arguments, parameters_on, below_parameters, types_on, below_types}
 use Rattle.hb_build.specs.Acts.{Work}
 use Rattle.hb_canonical.specs.Deeds.{Deed, plain, name, class, type_deed}
 use Rattle.hb_canonical.proofs.PlainLemmas.{plainly, plain_each, plain_names, plain_types, plain_classes, plain_setup, plain_scripts}
@@ -107,10 +104,6 @@ abbrev pub head_constructs : Head → ℕ
 head_constructs (Plain c m) = 0
 head_constructs (Computes c e) = 1 + constructs e
 
-abbrev pub class_in : Head → ℕ
-class_in (Plain c m) = c
-class_in (Computes c e) = c
-
 pub record Methods (pile : List Slot) (before : Said → Head → List Deed → List Deed) (w : Work) (ds : List Deed) (v : Work) (es : List Deed) : Type 0 where
   pub head : Head
   pub moves : Moves w.said v (slot_of head ∷ pile) w.depth
@@ -191,50 +184,47 @@ pub record ClassesMore (w : Work) (ds : List Deed) (v : Work) (es : List Deed) :
 
 -- ── each sort ──
 
-abbrev pub Goes_through : Sort → Work → List Deed → Work → List Deed → Type 0
-Goes_through g.Program = ClassesMore
-Goes_through g.Classes = ClassesMore
-Goes_through g.Scripts = ScriptsMore
-Goes_through g.Block = Blocks
-Goes_through g.Items = ItemsMore
-Goes_through g.MoreItems = ItemsMore
-Goes_through g.Expression = Pushes 0
-Goes_through g.AfterName = Follows
-Goes_through g.OtherUnary = Pushes 4
-Goes_through g.Method = λ w. Methods w.pile (λ s head rest. rest) w
-Goes_through g.MethodName = MethodNames
-Goes_through g.Signature = Signatures
-Goes_through g.Types = TypesMore
-Goes_through g.MoreTypes = TypesMore
-Goes_through g.TypeWord = TypeWords
-Goes_through g.MoreComparison = Extends 2 0
-Goes_through g.Sum = Pushes 2
-Goes_through g.MoreSum = Extends 2 2
-Goes_through g.Product = Pushes 3
-Goes_through g.MoreProduct = Extends 3 3
-Goes_through g.Unary = Pushes 4
-Goes_through g.Postfix = Pushes 5
-Goes_through g.MorePostfix = Extends 5 5
-Goes_through g.Arguments = ArgumentsWhole
-Goes_through g.ArgumentList = ArgumentsMore
-Goes_through g.MoreArguments = ArgumentsMore
-Goes_through g.Primary = Pushes 5
-Goes_through g.Value = Pushes 5
-Goes_through g.ElsePart = λ w ds v es. (pile : List Slot) → below_items w.pile ≡ Block ∷ pile → Elses pile w ds v es
-Goes_through g.Parameters = ParametersMore
-Goes_through g.MoreParameters = ParametersMore
+abbrev pub Through : Sort → Work → List Deed → Work → List Deed → Type 0
+Through g.Program = ClassesMore
+Through g.Classes = ClassesMore
+Through g.Scripts = ScriptsMore
+Through g.Block = Blocks
+Through g.Items = ItemsMore
+Through g.MoreItems = ItemsMore
+Through g.Expression = Pushes 0
+Through g.AfterName = Follows
+Through g.OtherUnary = Pushes 4
+Through g.Method = λ w. Methods w.pile (λ s head rest. rest) w
+Through g.MethodName = MethodNames
+Through g.Signature = Signatures
+Through g.Types = TypesMore
+Through g.MoreTypes = TypesMore
+Through g.TypeWord = TypeWords
+Through g.MoreComparison = Extends 2 0
+Through g.Sum = Pushes 2
+Through g.MoreSum = Extends 2 2
+Through g.Product = Pushes 3
+Through g.MoreProduct = Extends 3 3
+Through g.Unary = Pushes 4
+Through g.Postfix = Pushes 5
+Through g.MorePostfix = Extends 5 5
+Through g.Arguments = ArgumentsWhole
+Through g.ArgumentList = ArgumentsMore
+Through g.MoreArguments = ArgumentsMore
+Through g.Primary = Pushes 5
+Through g.Value = Pushes 5
+Through g.ElsePart = λ w ds v es. (pile : List Slot) → below_items w.pile ≡ Block ∷ pile → Elses pile w ds v es
+Through g.Parameters = ParametersMore
+Through g.MoreParameters = ParametersMore
 
 -- the symbols lead from this work, with these deeds ahead, to where `on` holds
 abbrev pub Way : List Symbol → Work → List Deed → (Work → List Deed → Type 0) → Type 0
 Way [] w ds on = on w ds
 Way (T j ∷ stack) w ds on = Way stack w ds on
 Way (A action ∷ stack) w ds on = (v : Work) × (es : List Deed) × Does action w ds v es × Way stack v es on
-Way (N sort ∷ stack) w ds on = (v : Work) × (es : List Deed) × Goes_through sort w ds v es × Way stack v es on
+Way (N sort ∷ stack) w ds on = (v : Work) × (es : List Deed) × Through sort w ds v es × Way stack v es on
 
--- one alternative is a phrase of the sort
-abbrev pub Serves : Sort → List Symbol → Type 1
-Serves sort phrase = (w : Work) (ds : List Deed) (on : Work → List Deed → Type 0) → Way phrase w ds on → Way (N sort ∷ []) w ds on
-
+-- a way through symbols one behind another
 pub way-append : (phrase stack : List Symbol) (w : Work) (ds : List Deed) (on : Work → List Deed → Type 0) → Way (phrase ++ stack) w ds on → Way phrase w ds (λ v es. Way stack v es on)
 way-append [] stack w ds on h = h
 way-append (T j ∷ phrase) stack w ds on h = way-append phrase stack w ds on h

@@ -3,7 +3,6 @@ use Rattle.std.proofs.Common.{◌≡◌, ℕ, List, [], ◌∷◌, ◌++◌, map
 use Rattle.std.specs.Prelude.{slice_get, nat_lt, if◌then◌else◌}
 use Rattle.std.specs.List.{flat_map}
 use Rattle.std.specs.Fmt.{signed_decimal}
-use Rattle.std.proofs.lemmas.List.{append-nil}
 use Rattle.hb_types.specs.declared.types.Ty.{Ty}
 use Rattle.hb_types.specs.declared.types.Ty.TheVariants as ty
 use Rattle.hb_types.specs.declared.types.MethodTy.{MethodTy}
@@ -14,7 +13,7 @@ use Rattle.hb_draft.specs.Made.{Given}
 use Rattle.hb_grammar.specs.declared.actions.Action.{Action}
 use Rattle.hb_grammar.specs.declared.actions.Action.TheVariants as a
 use Rattle.hb_build.specs.Said.{Said}
-use Rattle.hb_canonical.specs.Deeds.{Deed, deed, plain, name, class, type_deed, signature_of, parameters_of, boolean, wrap, named, computed, arguments, own, each, class_deeds, setup_deeds, script_deeds, deeds_of, bare}
+use Rattle.hb_canonical.specs.Deeds.{Deed, deed, plain, name, class, type_deed, signature_of, parameters_of, boolean, wrap, arguments, own, each, class_deeds, setup_deeds, script_deeds, deeds_of, bare}
 
 -- ── definitions ──
 

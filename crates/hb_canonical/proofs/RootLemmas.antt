@@ -1,22 +1,21 @@
 -- The alternatives of whole texts: classes, the setup and scripts.
-use Rattle.std.proofs.Common.{◌≡◌, ℕ, ◌+◌, ◌≤◌, List, [], ◌∷◌, ◌++◌, length, Option, Some, None, refl, sym, ◌∙◌, ap, subst, arith, append_assoc}
+use Rattle.std.proofs.Common.{◌≡◌, ℕ, List, [], ◌∷◌, ◌++◌, length, Option, Some, None, refl, sym, ◌∙◌, ap, subst, arith, append_assoc}
 use Rattle.std.specs.Prelude.{bytes_eq, nat_le}
 use Rattle.std.specs.List.{list_any}
 use Rattle.std.proofs.lemmas.List.{append-nil}
-use Rattle.hb_tree.specs.declared.limits.TheConstants.{CLASSES_MAX, SCRIPTS_MAX, CONSTRUCTS_MAX}
+use Rattle.hb_tree.specs.declared.limits.TheConstants.{CLASSES_MAX, SCRIPTS_MAX}
 use Rattle.hb_tree.specs.Tree.{Tree}
 use Rattle.hb_grammar.specs.declared.actions.Action.TheVariants as a
 use Rattle.hb_grammar.specs.declared.symbols.Sort.TheVariants as g
-use Rattle.hb_grammar.specs.declared.symbols.Symbol.TheVariants.{Token as T, Phrase as N, Action as A}
+use Rattle.hb_grammar.specs.declared.symbols.Symbol.TheVariants.{Phrase as N, Action as A}
 use Rattle.hb_build.specs.Said.{Said}
 use Rattle.hb_build.specs.Pile.{Slot, Closed, Setup, Script}
-use Rattle.hb_build.specs.Acts.{Work, Goes}
+use Rattle.hb_build.specs.Acts.{Work}
 use Rattle.hb_canonical.specs.Deeds.{Deed, deed, plain, name}
-use Rattle.hb_canonical.proofs.PlainLemmas.{plainly, plain_classes, plain_setup, plain_scripts}
-use Rattle.hb_canonical.proofs.ConstructLemmas.{constructs}
+use Rattle.hb_canonical.proofs.PlainLemmas.{plainly}
 use Rattle.hb_canonical.proofs.EffectLemmas.{Later, Moves, Does, begins-same, later-same, later-then, goes-same, goes-passed, at-pile}
 use Rattle.hb_canonical.proofs.ActionLemmas.{does-begin_setup, does-begin_script}
-use Rattle.hb_canonical.proofs.PhraseLemmas.{Blocks, Closes, ScriptsMore, ClassesMore, ScriptsFit, SetupFits, Way}
+use Rattle.hb_canonical.proofs.PhraseLemmas.{Blocks, ScriptsMore, ScriptsFit, SetupFits, Way}
 use Rattle.hb_canonical.proofs.BlockLemmas.{block_ends}
 
 module _ (w : Work) (ds : List Deed) (v : Work) (es : List Deed) where
@@ -99,8 +98,7 @@ module _ (w : Work) (ds : List Deed) (on : Work → List Deed → Type 0) where
 
   pub first_script : Way (A a.BeginScript ∷ N g.Block ∷ A a.EndBlock ∷ A a.EndScript ∷ N g.Scripts ∷ []) w ds on → Way (N g.Classes ∷ []) w ds on
   first_script (v1, e1, d1, (v2, e2, b, (v3, e3, d3, (v4, e4, d4, (v5, e5, more, k))))) =
-      let all = script_more v1 e1 d1 v2 e2 b v3 e3 d3 v4 e4 d4 v5 e5 more in
-      (
+      let all = script_more v1 e1 d1 v2 e2 b v3 e3 d3 v4 e4 d4 v5 e5 more in (
         v5,
         e5,
         record {
@@ -143,8 +141,7 @@ module _ (w : Work) (ds : List Deed) (on : Work → List Deed → Type 0) where
   one_class (v1, e1, d1, (v2, e2, more, k)) =
       let end = does-declare_class w ds v1 e1 d1 in
       let said : v1.said ≡ record w.said { classes = w.said.classes ++ d1.bytes ∷ [] } = ap (λ (x : Work). x.said) end in
-      let a1 : v1.depth ≡ w.depth = ap (λ (x : Work). x.depth) end in
-      (
+      let a1 : v1.depth ≡ w.depth = ap (λ (x : Work). x.depth) end in (
         v2,
         e2,
         record {
@@ -173,8 +170,7 @@ module _ (w : Work) (ds : List Deed) (on : Work → List Deed → Type 0) where
       let a1 : v1.depth ≡ w.depth = m1.depth_is in
       let a3 : v3.depth ≡ v1.depth = c.moves.depth_is in
       let a4 : v4.depth ≡ v3.depth = ap (λ (x : Work). x.depth) end in
-      let same : v4.depth ≡ w.depth = a4 ∙ a3 ∙ a1 in
-      (
+      let same : v4.depth ≡ w.depth = a4 ∙ a3 ∙ a1 in (
         v5,
         e5,
         record {

@@ -1,12 +1,11 @@
 -- The deeds of a text whose actions build something: without parentheses they are those of what is said, which fits in.
-use Rattle.std.proofs.Common.{◌≡◌, ℕ, zero, suc, ◌+◌, ◌≤◌, List, [], ◌∷◌, ◌++◌, map, true, false, Option, Some, None, refl, sym, ◌∙◌, ap, subst, inl, inr, arith}
+use Rattle.std.proofs.Common.{◌≡◌, ℕ, zero, suc, ◌+◌, ◌≤◌, List, [], ◌∷◌, ◌++◌, true, false, Option, refl, sym, ◌∙◌, ap, subst, inl, inr, arith}
 use Rattle.std.specs.List.{AllByRecursion}
 use Rattle.hb_lex.specs.declared.kinds.TokenKind.{TokenKind}
 use Rattle.hb_lex.specs.declared.spans.Token.{Token}
 use Rattle.hb_types.specs.declared.types.Ty.TheVariants as ty
 use Rattle.hb_tree.specs.declared.limits.TheConstants.{CONSTRUCTS_MAX}
 use Rattle.hb_tree.specs.Tree.{Tree}
-use Rattle.hb_grammar.specs.declared.actions.Action.{Action}
 use Rattle.hb_grammar.specs.declared.symbols.Sort.{Sort}
 use Rattle.hb_grammar.specs.declared.symbols.Sort.TheVariants as g
 use Rattle.hb_grammar.specs.declared.symbols.Symbol.{Symbol}
@@ -17,9 +16,9 @@ use Rattle.hb_build.specs.Said.{Said}
 use Rattle.hb_build.specs.Acts.{Work, Answer, Goes, Fails, Lost, nothing}
 use Rattle.hb_build.specs.Follow.{follow, act_in, and_then, spot_of, bytes_in, last_of}
 use Rattle.hb_canonical.specs.Deeds.{Deed, deeds_in, deeds_of, bare, deepest}
-use Rattle.hb_canonical.proofs.PlainLemmas.{plain_all, plain_classes, plain_setup, plain_scripts, bare_all}
-use Rattle.hb_canonical.proofs.EffectLemmas.{Does, goes-same, later-same}
-use Rattle.hb_canonical.proofs.PhraseLemmas.{Goes_through, ClassesMore, SetupFits, ScriptsFit, Way, way-append}
+use Rattle.hb_canonical.proofs.PlainLemmas.{plain_classes, plain_setup, plain_scripts, bare_all}
+use Rattle.hb_canonical.proofs.EffectLemmas.{goes-same, later-same}
+use Rattle.hb_canonical.proofs.PhraseLemmas.{ClassesMore, SetupFits, ScriptsFit, Way, way-append}
 use Rattle.hb_canonical.proofs.DepthLemmas.{all-start}
 use Rattle.hb_canonical.proofs.OperandLemmas as operand
 use Rattle.hb_canonical.proofs.BlockLemmas as block
@@ -68,8 +67,25 @@ module _ (w : Work) (ds : List Deed) (on : Work → List Deed → Type 0) where
   all-serve g.Primary = (operand.primary_name w ds on, (same, tt))
   all-serve g.Value = (
     operand.text w ds on,
-    (operand.nil w ds on, (operand.truth w ds on, (operand.falsehood w ds on, (operand.oneself w ds on, (operand.made w ds on, (operand.in_parentheses w ds on,
-    (operand.spelled w ds on, (block.chosen w ds on, (block.repeated w ds on, (method.defines w ds on, (operand.number w ds on, tt))))))))))),
+    (
+      operand.nil w ds on,
+      (
+        operand.truth w ds on,
+        (
+          operand.falsehood w ds on,
+          (
+            operand.oneself w ds on,
+            (
+              operand.made w ds on,
+              (
+                operand.in_parentheses w ds on,
+                (operand.spelled w ds on, (block.chosen w ds on, (block.repeated w ds on, (method.defines w ds on, (operand.number w ds on, tt))))),
+              ),
+            ),
+          ),
+        ),
+      ),
+    ),
   )
   all-serve g.ElsePart = (block.spoken w ds on, (block.silent w ds on, tt))
   all-serve g.Parameters = (method.one_parameter w ds on, (method.no_parameter w ds on, tt))
@@ -103,8 +119,7 @@ module _ (text : List ℕ) (tokens : List Token) where
   way (suc n) (T j ∷ stack) at kinds done w v h built = way n stack (at + 1) h.0 done w v h.2 built
   way (suc n) (A action ∷ stack) at kinds done w v h built =
       let x : Act = act_at action at in
-      let step = then-goes (act_in text tokens x w) (follow text tokens h.0) v (subst (λ (y : List Act). follow text tokens y w ≡ Goes v) h.1 built) in
-      (
+      let step = then-goes (act_in text tokens x w) (follow text tokens h.0) v (subst (λ (y : List Act). follow text tokens y w ≡ Goes v) h.1 built) in (
         step.0,
         bare (deeds_in text tokens h.0),
         record {
