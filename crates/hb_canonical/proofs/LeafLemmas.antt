@@ -133,7 +133,7 @@ text_token bytes is =
 -- ── numbers ──
 
 -- these digits are this number
-abbrev AreDigits : ℕ → List ℕ → Type 0
+abbrev pub AreDigits : ℕ → List ℕ → Type 0
 AreDigits n digits = (is_number digits ≡ true) × (value_of_number digits ≡ n)
 
 one_digit : (n : ℕ) → n < 10 → AreDigits n ((48 + n) ∷ [])
@@ -158,7 +158,7 @@ more_digits n digits le h = (
   value_more 0 digits (48 + n % 10) ∙ ap (λ v. with_digit v (48 + n % 10)) h.1 ∙ omega arith,
 )
 
-digits_of : (n : ℕ) → n < 2 ^ 64 → AreDigits n (decimal n)
+pub digits_of : (n : ℕ) → n < 2 ^ 64 → AreDigits n (decimal n)
 digits_of n small = decimal_by_steps AreDigits one_digit more_digits n small
 
 number_kind : (digits : List ℕ) → is_number digits ≡ true → kind_of digits ≡ Some k.Number

@@ -17,3 +17,4 @@ pub mod MethodLemmas
 pub mod RootLemmas
 pub mod SourceLemmas
 pub mod DepthLemmas
+pub mod PerformLemmas

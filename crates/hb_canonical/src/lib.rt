@@ -5,4 +5,4 @@ mod canonical;
 mod source;
 
 pub use canonical::canonical_tokens;
-pub use source::{source_depth, source_words};
+pub use source::{deeds_build, source_depth, source_words};

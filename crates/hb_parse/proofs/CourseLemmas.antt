@@ -36,7 +36,7 @@ use Rattle.hb_parse.proofs.TokenLemmas.{token-has}
 
 -- ── a token that is read ──
 
-read-kind : (tokens : List Token) (n : ℕ) (j : TokenKind) (rest : List TokenKind) → drop n (kinds_of tokens) ≡ j ∷ rest → (t : Token) × (slice_get tokens n ≡ Some t) × (t.kind ≡ j) × (drop (suc n) (kinds_of tokens) ≡ rest)
+pub read-kind : (tokens : List Token) (n : ℕ) (j : TokenKind) (rest : List TokenKind) → drop n (kinds_of tokens) ≡ j ∷ rest → (t : Token) × (slice_get tokens n ≡ Some t) × (t.kind ≡ j) × (drop (suc n) (kinds_of tokens) ≡ rest)
 read-kind [] zero j rest e = absurd (cc)
 read-kind [] (suc n) j rest e = absurd (cc)
 read-kind (t ∷ tokens) zero j rest e = (t, refl, cc, cc)
@@ -47,7 +47,7 @@ index-is [] n t e = absurd (cc)
 index-is (x ∷ tokens) zero t e = cc
 index-is (x ∷ tokens) (suc n) t e = index-is tokens n t e
 
-all-at : (P : Token → Type 0) (tokens : List Token) (n : ℕ) (t : Token) → All P tokens → slice_get tokens n ≡ Some t → P t
+pub all-at : (P : Token → Type 0) (tokens : List Token) (n : ℕ) (t : Token) → All P tokens → slice_get tokens n ≡ Some t → P t
 all-at P tokens n t all e =
     let P' = λ (x : Token). P x in
     subst P' (index-is tokens n t e) (all n t (slice_get_within tokens n t e))
