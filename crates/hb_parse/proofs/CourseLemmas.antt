@@ -36,7 +36,7 @@ use Rattle.hb_parse.proofs.TokenLemmas.{token-has}
 
 -- ── a token that is read ──
 
-read-kind : (tokens : List Token) (n : ℕ) (j : TokenKind) (rest : List TokenKind) → drop n (kinds_of tokens) ≡ j ∷ rest → (t : Token) × (slice_get tokens n ≡ Some t) × (t.kind ≡ j) × (drop (suc n) (kinds_of tokens) ≡ rest)
+pub read-kind : (tokens : List Token) (n : ℕ) (j : TokenKind) (rest : List TokenKind) → drop n (kinds_of tokens) ≡ j ∷ rest → (t : Token) × (slice_get tokens n ≡ Some t) × (t.kind ≡ j) × (drop (suc n) (kinds_of tokens) ≡ rest)
 read-kind [] zero j rest e = absurd (cc)
 read-kind [] (suc n) j rest e = absurd (cc)
 read-kind (t ∷ tokens) zero j rest e = (t, refl, cc, cc)

@@ -2,14 +2,6 @@ pub mod TokenLemmas
 pub mod FollowLemmas
 pub mod CourseLemmas
 pub mod OneLemmas
-pub mod JoinLemmas
-pub mod SpellLemmas
-pub mod LooseLemmas
-pub mod LeafLemmas
-pub mod PieceLemmas
-pub mod CanonicalLemmas
-pub mod DeriveLemmas
-pub mod ProgramTextLemmas
 pub mod SpareLemmas
 pub mod LineLemmas
 pub mod BlockCounts

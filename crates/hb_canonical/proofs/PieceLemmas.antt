@@ -26,8 +26,8 @@ use Rattle.hb_tree.specs.Pieces.{Piece, mark, joined_paren}
 use Rattle.hb_tree.specs.Canon.{own, each, wrap, least_left, least_right, op_kind, level, arguments, otherwise, separated, named, computed, parameters, parameters_of, signature, signature_of, declares, name_piece, class_piece, type_piece, bytes_at}
 use Rattle.hb_tree.specs.Spelling.{IsName, IsClassName, IsText}
 use Rattle.hb_tree.proofs.Lists.{each_append, each_at, past_none}
-use Rattle.hb_parse.proofs.LeafLemmas.{name_token, class_token, text_token, number_token}
-use Rattle.hb_parse.proofs.LooseLemmas.{IsPlain, ArePlain, plain_mark, plain_paren, last_kind, Ends, ends_append}
+use Rattle.hb_canonical.proofs.LeafLemmas.{name_token, class_token, text_token, number_token}
+use Rattle.hb_canonical.proofs.LooseLemmas.{IsPlain, ArePlain, plain_mark, plain_paren, last_kind, Ends, ends_append}
 
 -- ── lists of pieces ──
 

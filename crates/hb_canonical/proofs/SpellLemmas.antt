@@ -12,8 +12,8 @@ use Rattle.hb_lex.specs.Tokens.{bytes_of, kind_of, excess}
 use Rattle.hb_lex.specs.Text.{Lexes, separates, token_at}
 use Rattle.hb_lex.proofs.Forms.{empty_none}
 use Rattle.hb_tree.specs.Pieces.{Piece, line_end, spell, spell_behind}
-use Rattle.hb_parse.specs.Canonical.{HasPieces}
-use Rattle.hb_parse.proofs.JoinLemmas.{stops, begins, next}
+use Rattle.hb_canonical.specs.Canonical.{HasPieces}
+use Rattle.hb_canonical.proofs.JoinLemmas.{stops, begins, next}
 
 -- the bytes of a piece are a token of its kind, and one that is not too large
 pub record IsToken (p : Piece) : Type 0 where

@@ -14,11 +14,11 @@ use Rattle.hb_tree.specs.Program.{IsProgram, IsBlockNode, IsExprNode, IsRootIn, 
 use Rattle.hb_tree.specs.Spelling.{IsClassName}
 use Rattle.hb_tree.specs.Pieces.{Piece, mark, word}
 use Rattle.hb_tree.specs.Canon.{own, each, line, lines_of, class_line, setup_lines, script_lines, name_piece, pieces_of, canon}
-use Rattle.hb_parse.specs.Canonical.{HasPieces}
-use Rattle.hb_parse.proofs.SpellLemmas.{has_pieces}
-use Rattle.hb_parse.proofs.LeafLemmas.{class_token}
-use Rattle.hb_parse.proofs.LooseLemmas.{AreLines, plain_mark, is_line, lines_append, well}
-use Rattle.hb_parse.proofs.PieceLemmas.{name_plain, down_plain, down_ends}
+use Rattle.hb_canonical.specs.Canonical.{HasPieces}
+use Rattle.hb_canonical.proofs.SpellLemmas.{has_pieces}
+use Rattle.hb_canonical.proofs.LeafLemmas.{class_token}
+use Rattle.hb_canonical.proofs.LooseLemmas.{AreLines, plain_mark, is_line, lines_append, well}
+use Rattle.hb_canonical.proofs.PieceLemmas.{name_plain, down_plain, down_ends}
 
 class_lines : (names : List (List ℕ)) → AllByRecursion IsClassName names → AreLines (flat_map class_line names)
 class_lines [] h = λ before. tt

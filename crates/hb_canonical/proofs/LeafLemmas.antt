@@ -18,7 +18,7 @@ use Rattle.hb_lex.proofs.Forms.{none_from, spelled_shape, kind_of_name, kind_of_
 use Rattle.hb_tree.specs.Spelling.{IsName, IsClassName, IsText, is_word, is_text_byte, keywords, type_words}
 use Rattle.hb_tree.specs.Canon.{escape, quoted}
 use Rattle.hb_tree.specs.Pieces.{word}
-use Rattle.hb_parse.proofs.SpellLemmas.{IsToken}
+use Rattle.hb_canonical.proofs.SpellLemmas.{IsToken}
 
 abbrev first : List ℕ → ℕ
 first bytes = get_or bytes 0 0
@@ -133,7 +133,7 @@ text_token bytes is =
 -- ── numbers ──
 
 -- these digits are this number
-abbrev AreDigits : ℕ → List ℕ → Type 0
+abbrev pub AreDigits : ℕ → List ℕ → Type 0
 AreDigits n digits = (is_number digits ≡ true) × (value_of_number digits ≡ n)
 
 one_digit : (n : ℕ) → n < 10 → AreDigits n ((48 + n) ∷ [])
@@ -158,7 +158,7 @@ more_digits n digits le h = (
   value_more 0 digits (48 + n % 10) ∙ ap (λ v. with_digit v (48 + n % 10)) h.1 ∙ omega arith,
 )
 
-digits_of : (n : ℕ) → n < 2 ^ 64 → AreDigits n (decimal n)
+pub digits_of : (n : ℕ) → n < 2 ^ 64 → AreDigits n (decimal n)
 digits_of n small = decimal_by_steps AreDigits one_digit more_digits n small
 
 number_kind : (digits : List ℕ) → is_number digits ≡ true → kind_of digits ≡ Some k.Number

@@ -27,8 +27,8 @@ use Rattle.hb_grammar.specs.declared.symbols.Symbol.{Symbol}
 use Rattle.hb_grammar.specs.declared.symbols.Symbol.TheVariants.{Token as T, Phrase as N, Action as A}
 use Rattle.hb_grammar.specs.declared.actions.Action.TheVariants as a
 use Rattle.hb_grammar.specs.Language.{IsProgramText, program}
-use Rattle.hb_parse.proofs.DeriveLemmas as d
-use Rattle.hb_parse.proofs.DeriveLemmas.{Sentence, Leads, Holds, AsExpression, AreExpressions, AsPostfix, AsBlock, put, put_kinds, over, token, action, choose, split, whole, value}
+use Rattle.hb_canonical.proofs.DeriveLemmas as d
+use Rattle.hb_canonical.proofs.DeriveLemmas.{Sentence, Leads, Holds, AsExpression, AreExpressions, AsPostfix, AsBlock, put, put_kinds, over, token, action, choose, split, whole, value}
 
 -- the parameters of a definition, with their parentheses
 record AreParameters (ps : List Piece) : Type 0 where

@@ -10,8 +10,8 @@ use Rattle.hb_lex.specs.Tokens.{kind_of, excess}
 use Rattle.hb_lex.specs.Text.{separates}
 use Rattle.hb_lex.proofs.Forms.{empty_none, kind_of_spelling}
 use Rattle.hb_tree.specs.Pieces.{Piece, mark, joined_paren, line_end, spell_behind}
-use Rattle.hb_parse.proofs.JoinLemmas.{stops_at, stops}
-use Rattle.hb_parse.proofs.SpellLemmas.{IsToken, IsPiece, IsWell}
+use Rattle.hb_canonical.proofs.JoinLemmas.{stops_at, stops}
+use Rattle.hb_canonical.proofs.SpellLemmas.{IsToken, IsPiece, IsWell}
 
 -- the marks that join nothing behind them
 abbrev joins_none : TokenKind → Bool

@@ -5,7 +5,7 @@ ghost use Rattle.hb_grammar.specs.Language.{IsProgramText};
 ghost use Rattle.hb_tree.specs.Canon.{canon, pieces_of};
 ghost use Rattle.hb_tree.specs.Program.{IsProgram};
 ghost use Rattle.hb_tree.specs.Table.{Table};
-ghost use Rattle.hb_parse.specs.Canonical.{HasPieces};
+ghost use Rattle.hb_canonical.specs.Canonical.{HasPieces};
 
 /// The canonical text of a program has exactly the tokens that its pieces say, and these are the tokens of a program.
 pub fn canonical_tokens()

@@ -1,0 +1,4 @@
+pub mod Canonical
+pub mod Deeds
+pub mod Perform
+pub mod Same

@@ -1,9 +1,0 @@
-use Rattle.hb_parse.proofs.CanonicalLemmas.{canonical_pieces}
-use Rattle.hb_parse.proofs.ProgramTextLemmas.{canonical_program}
-use Rattle.hb_parse.proofs.canonical.canonical_tokens.Goals as goal
-
-pub returns-clause-pieces : goal.returns-clause-pieces
-returns-clause-pieces c = canonical_pieces
-
-pub returns-clause-program : goal.returns-clause-program
-returns-clause-program c = canonical_program
