@@ -1,6 +1,6 @@
 use super::*;
 use hb_io::{MemSink, MemSource};
-use std::alloc::Global;
+use std::alloc::{AllocError, Global};
 use std::test::Fail;
 
 const GREETING: &str =
