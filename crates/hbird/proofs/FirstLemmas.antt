@@ -14,7 +14,7 @@ use Rattle.hbird.specs.First.{are_items, is_body, is_call, is_first, is_item, is
 use Rattle.hbird.specs.Script.{item_in, items_in, printed_by}
 use Rattle.hbird.specs.declared.first.TheConstants.{ITEMS_MAX}
 
--- a block that has another number of expressions than one, and one whose expression is no body's
+-- a block that has another number of expressions than one
 pub body-other : (s : Said) (block : ℕ) (part : ℕ → Tree) (ids : List NodeId) → (length ids ≡ 1 → ⊥)
     → false ≡ is_body s (TBlock block (forest_at part ids))
 body-other s block part [] h = refl

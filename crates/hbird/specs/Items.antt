@@ -1,4 +1,4 @@
--- What a text of the first form says, item by item.
+-- The items of a program of the first form.
 use Rattle.std.specs.Prelude.{ℕ, List}
 use Rattle.hb_types.specs.declared.types.Ty.{Ty}
 

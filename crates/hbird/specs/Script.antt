@@ -10,7 +10,7 @@ use Rattle.hb_build.specs.Said.{Said}
 use Rattle.hbird.specs.Items.{Item, Typed, Defined, Printed, Part, Literal, Parameter, Place}
 use Rattle.hbird.specs.Judgement.{Signature}
 
--- the name or the text with a number
+-- the name or the text with a number. Each number in a program has one
 abbrev pub word_at : List (List ℕ) → ℕ → List ℕ
 word_at words x = unwrap_or (slice_get words x) []
 
