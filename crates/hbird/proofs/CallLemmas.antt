@@ -13,7 +13,9 @@ use Rattle.hb_tree.specs.Table.{Table}
 use Rattle.hb_tree.specs.TreeAt.{tree_at}
 use Rattle.hbird.specs.declared.parts.Part.{Part}
 use Rattle.hbird.specs.Judgement.{Definition, Signature, is_judged, value_of}
-use Rattle.hbird.specs.Said.{definition_at, names_at, part_of, parts_in_block, signature_at, text_at, texts_at}
+use Rattle.hb_build.specs.Said.{said_in}
+use Rattle.hbird.specs.Numbers.{definition_at, names_at, part_of, text_at, texts_at}
+use Rattle.hbird.specs.Script.{parts_in_block, signature_at}
 use Rattle.hbird.specs.Verdict.{BadArgs, Enter, IllTyped, given, given_on, takes, takes_count, verdict_on}
 use Rattle.hbird.proofs.SaidLemmas.{definition-known, signature-known}
 
@@ -33,7 +35,7 @@ module _ (t : Table) (site declared : ℕ) (body : Body) (m : MethodTy) (params 
     (parts : List Part) (args : List TextId)
     (has_body : slice_get t.bodies site ≡ Some body) (has_type : option_map (λ y. y.0) (slice_get t.types declared) ≡ Some m)
     (are_params : params ≡ take body.count body.params) (are_types : types ≡ param_types_of m)
-    (are_parts : map (part_of t) parts ≡ parts_in_block t (tree_at t body.block.0)) where
+    (are_parts : map (part_of t) parts ≡ parts_in_block (said_in t) (tree_at t body.block.0)) where
   abbrev sig : Signature
   sig = record { params = types; result = m.result }
 
@@ -46,7 +48,7 @@ module _ (t : Table) (site declared : ℕ) (body : Body) (m : MethodTy) (params 
       ∙ ap (λ qs. let d : Definition = record { params = names_at t (take body.count body.params); parts = qs } in d) are_parts
       ∙ sym (definition-known t site body has_body)
 
-  same_sig : sig ≡ signature_at t declared
+  same_sig : sig ≡ signature_at (said_in t) declared
   same_sig =
       ap (λ (ts : List Ty). let s : Signature = record { params = ts; result = m.result } in s) are_types
       ∙ sym (signature-known t declared m has_type)
@@ -55,18 +57,18 @@ module _ (t : Table) (site declared : ℕ) (body : Body) (m : MethodTy) (params 
   same_test = ap (λ n. takes_count sig n && is_judged sig def) (length-map args (λ (x : TextId). text_at t x.0))
 
   pub given-entered : (takes_count sig (length args) && is_judged sig def) ≡ true
-      → given_on (verdict_on (Some (definition_at t site)) (Some (signature_at t declared)) (texts_at t args)) (Some (definition_at t site)) (texts_at t args)
+      → given_on (verdict_on (Some (definition_at t site)) (Some (signature_at (said_in t) declared)) (texts_at t args)) (Some (definition_at t site)) (texts_at t args)
       ≡ Some (value_of def (texts_at t args))
   given-entered h =
-      subst (λ (d : Definition). given_on (verdict_on (Some d) (Some (signature_at t declared)) (texts_at t args)) (Some d) (texts_at t args) ≡ Some (value_of def (texts_at t args))) same_def
+      subst (λ (d : Definition). given_on (verdict_on (Some d) (Some (signature_at (said_in t) declared)) (texts_at t args)) (Some d) (texts_at t args) ≡ Some (value_of def (texts_at t args))) same_def
       (subst (λ (s : Signature). given_on (verdict_on (Some def) (Some s) (texts_at t args)) (Some def) (texts_at t args) ≡ Some (value_of def (texts_at t args))) same_sig
       (enters_if (takes sig (texts_at t args)) (is_judged sig def) def (texts_at t args) (same_test ∙ h)))
 
   pub given-refused : (takes_count sig (length args) && is_judged sig def) ≡ false
-      → given_on (verdict_on (Some (definition_at t site)) (Some (signature_at t declared)) (texts_at t args)) (Some (definition_at t site)) (texts_at t args)
+      → given_on (verdict_on (Some (definition_at t site)) (Some (signature_at (said_in t) declared)) (texts_at t args)) (Some (definition_at t site)) (texts_at t args)
       ≡ None
   given-refused h =
-      subst (λ (d : Definition). given_on (verdict_on (Some d) (Some (signature_at t declared)) (texts_at t args)) (Some d) (texts_at t args) ≡ None) same_def
+      subst (λ (d : Definition). given_on (verdict_on (Some d) (Some (signature_at (said_in t) declared)) (texts_at t args)) (Some d) (texts_at t args) ≡ None) same_def
       (subst (λ (s : Signature). given_on (verdict_on (Some def) (Some s) (texts_at t args)) (Some def) (texts_at t args) ≡ None) same_sig
       (refuses_if (takes sig (texts_at t args)) (is_judged sig def) def (texts_at t args) (same_test ∙ h)))
 

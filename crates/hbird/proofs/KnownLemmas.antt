@@ -10,7 +10,9 @@ use Rattle.hb_tree.specs.Program.{IsProgram}
 use Rattle.hbird.specs.declared.methods.Methods.{Methods}
 use Rattle.hbird.specs.Judgement.{Definition, Signature, found}
 use Rattle.hbird.specs.Known.{IsOf, Knows, body_site, type_site}
-use Rattle.hbird.specs.Said.{definition_at, name_at, signature_at}
+use Rattle.hb_build.specs.Said.{said_in}
+use Rattle.hbird.specs.Numbers.{definition_at, name_at}
+use Rattle.hbird.specs.Script.{signature_at}
 use Rattle.hbird.proofs.NameLemmas.{same_name}
 
 -- a map by names with a new first entry, and a map by numbers with one place changed
@@ -68,9 +70,9 @@ module _ (t : Table) (is : IsProgram t) (old new : Methods) (types : List (List 
     (n : ℕ) (within : n < length t.names) (known : Knows t old types defs) where
   pub knows-type : (site : TypeSite) → type_site new n ≡ Some site
       → ((m : ℕ) → (m ≡ n → ⊥) → type_site new m ≡ type_site old m) → new.bodies ≡ old.bodies
-      → Knows t new ((name_at t n, signature_at t site.0) ∷ types) defs
+      → Knows t new ((name_at t n, signature_at (said_in t) site.0) ∷ types) defs
   knows-type site here others same = record {
-    types = λ m h. found-set t is (λ (s : TypeSite). signature_at t s.0) n site within types (type_site old) (type_site new) here others
+    types = λ m h. found-set t is (λ (s : TypeSite). signature_at (said_in t) s.0) n site within types (type_site old) (type_site new) here others
         m h (known.types m h);
     defs = λ m h. rw same (known.defs m h);
   }

@@ -1,4 +1,5 @@
 pub mod FaultLemmas
+pub mod FirstLemmas
 pub mod Rows
 pub mod RunLemmas
 pub mod TypeLemmas
@@ -6,7 +7,6 @@ pub mod WalkLemmas
 pub mod NameLemmas
 pub mod SaidLemmas
 pub mod KnownLemmas
-pub mod SaysLemmas
 pub mod StepLemmas
 pub mod CallLemmas
 pub mod OneDueLemmas

@@ -12,7 +12,7 @@ use Rattle.hb_types.specs.declared.ids.TextId.{TextId}
 use Rattle.hb_tree.specs.Table.{Table}
 use Rattle.hb_tree.specs.Program.{IsProgram}
 use Rattle.hbird.specs.Judgement.{found}
-use Rattle.hbird.specs.Said.{AreNamesIn, name_at, names_at, text_at, texts_at}
+use Rattle.hbird.specs.Numbers.{AreNamesIn, name_at, names_at, text_at, texts_at}
 
 bool_cases : (x y : Bool) → (x ≡ true → y ≡ true) → (y ≡ true → x ≡ true) → x ≡ y
 bool_cases true y f g = sym (f refl)

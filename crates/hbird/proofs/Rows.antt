@@ -3,7 +3,7 @@ use Rattle.std.proofs.Common.{◌≡◌, ℕ, [], ◌∷◌, refl}
 use Rattle.std.specs.Prelude.{codes}
 use Rattle.std.specs.Fmt.{digits}
 use Rattle.hb_types.specs.declared.types.Ty.TheVariants as ty
-use Rattle.hb_first.specs.Items.{Item, Typed, Defined, Printed, Literal, Parameter}
+use Rattle.hbird.specs.Items.{Item, Typed, Defined, Printed, Literal, Parameter}
 use Rattle.hbird.specs.declared.due.Ending.TheVariants.{Done, Stopped}
 use Rattle.hbird.specs.Report.{report}
 

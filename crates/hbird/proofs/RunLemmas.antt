@@ -1,6 +1,6 @@
 -- What reading a text to its end says of what is due.
-use Rattle.std.proofs.Common.{◌≡◌, ◌≢◌, ◌∙◌, ◌≤◌, ◌<◌, ◌+◌, ◌⊎◌, inl, inr, ℕ, List, [], ◌∷◌, ◌++◌, Some, None, Ok, Err, refl, sym, ap, subst, length, length-append, arith, append-nil, rules}
-use Rattle.std.specs.Prelude.{IfOk, IsNone}
+use Rattle.std.proofs.Common.{◌≡◌, ◌≢◌, ◌∙◌, ◌≤◌, ◌<◌, ◌+◌, ◌⊎◌, inl, inr, ℕ, List, [], ◌∷◌, ◌++◌, Some, None, Ok, Err, refl, sym, ap, subst, length, length-append, arith, append-nil, rules, Bool, true, false}
+use Rattle.std.specs.Prelude.{IfOk, IsNone, if◌then◌else◌}
 use Rattle.std.specs.Io.KnownBytes.{Keeps}
 use Rattle.std.specs.declared.option.Option.{Option}
 use Rattle.std.specs.declared.result.Result.{Result}
@@ -9,18 +9,17 @@ use Rattle.hb_lex.specs.declared.faults.LexFail.{LexFail}
 use Rattle.hb_lex.specs.declared.faults.LexFail.TheVariants as lex
 use Rattle.hb_lex.specs.declared.spans.Token.{Token}
 use Rattle.hb_lex.specs.Text.{HasFault, HasTokens}
-use Rattle.hb_tree.specs.Table.{Table}
 use Rattle.hb_build.specs.declared.faults.ParseFail.{ParseFail}
 use Rattle.hb_build.specs.declared.faults.ParseFail.TheVariants as parse
 use Rattle.hb_build.specs.Said.{Said}
 use Rattle.hb_parse.specs.Text.{IsFault, Says}
-use Rattle.hb_first.specs.Items.{Item, Typed, Defined, Printed, Place}
-use Rattle.hb_first.specs.First.{IsFirst}
-use Rattle.hb_first.specs.Held.{Holds}
-use Rattle.hbird.specs.Answers.{Answers, CameTo, Ends, IsDueFor, IsFaulty, IsNotYet, IsReadAs, IsReported, IsRunOf, IsRunOutcome, IsWhole, Reads}
+use Rattle.hbird.specs.Items.{Item, Typed, Defined, Printed, Place}
+use Rattle.hbird.specs.Answers.{Answers, CameTo, Ends, IsDueFor, IsFaulty, IsReadAs, IsRunOf, IsRunOutcome, IsWhole, Reads, reported}
 use Rattle.hbird.specs.Faults.{Fault, IsFirstFault, fault_line, lex_fault, parse_fault}
-use Rattle.hbird.specs.Outcomes.{IsDue, IsRefused, Outcome, faulty, not_yet, status_of, too_long}
-use Rattle.hbird.specs.Report.{Report, Run, after_call, report, report_from, start, script_line}
+use Rattle.hbird.specs.Outcomes.{IsDue, IsRefused, Outcome, faulty, status_of, too_long}
+use Rattle.hbird.specs.First.{is_first}
+use Rattle.hbird.specs.Report.{IsReport, Report, Run, after_call, not_yet, report, report_from, report_of, start, script_line}
+use Rattle.hbird.specs.Script.{script_items, script_name}
 use Rattle.hbird.specs.Verdict.{given}
 use Rattle.hbird.specs.declared.due.Due.{Due}
 use Rattle.hbird.specs.declared.due.Ending.{Ending}
@@ -43,13 +42,16 @@ report_from-no_refusal run (Printed name args place ∷ items) =
     after_call-no_refusal run place (given run.types run.defs name args) (λ next. report_from next items)
     (λ next. report_from-no_refusal next items)
 
-due-no_refusal : (text : List ℕ) (o : Outcome) → IsReported text o ⊎ IsNotYet text o → o.ending ≢ WordsRefused
-due-no_refusal text o (inl h) = λ e. report_from-no_refusal (start (script_line h.script)) h.items (sym h.ending ∙ e)
-due-no_refusal text o (inr h) = λ e. let same : o.ending ≡ TextRefused = ap (λ (x : Outcome). x.ending) h.same in cc
+report_of-no_refusal : (said : Said) → (report_of said).ending ≢ WordsRefused
+report_of-no_refusal said = go (is_first said)
+  where
+    go : (b : Bool) → (if b then report (script_name said) (script_items said) else not_yet).ending ≢ WordsRefused
+    go true = report_from-no_refusal (start (script_line (script_name said))) (script_items said)
+    go false = λ e. cc
 
 read-no_refusal : (text : List ℕ) (o : Outcome) → IsReadAs text o → o.ending ≢ WordsRefused
 read-no_refusal text o (inl h) = λ e. let same : o.ending ≡ TextRefused = ap (λ (x : Outcome). x.ending) h.same in cc
-read-no_refusal text o (inr h) = due-no_refusal text o h.1
+read-no_refusal text o (inr h) = λ e. report_of-no_refusal h.said (sym (ap (λ (x : Outcome). x.ending) h.same) ∙ e)
 
 pub run-all : (a b : Option (List ℕ)) (text : List ℕ) (o : Outcome) → TakesAll a b LIMIT text → IsReadAs text o → IsRunOutcome a o
 run-all None b text o h due = read-no_refusal text o due
@@ -74,32 +76,15 @@ run-past (Some x) (Some y) (bytes, taken, size) =
     let long : length x ≡ length bytes + length y = ap length taken ∙ length-append bytes y in
     inl (omega (arith, long, size), refl)
 
-pub text-first : (text : List ℕ) (t : Table) (due : Due)
-    → ((class script : List ℕ) × (items : List Item) × IsFirst text class script items × Holds t script items)
-    → ((script : List ℕ) (items : List Item) → Holds t script items → IsDue due (report script items).ending (report script items).text)
-    → (o : Outcome) × (IsReported text o ⊎ IsNotYet text o) × IsDue due o.ending o.text × (o.takes ≡ length text)
-text-first text t due (class, script, items, first, holds) is =
-    let o : Outcome = record { ending = (report script items).ending; text = (report script items).text; takes = length text } in (
-      o,
-      inl (record { class = class; script = script; items = items; first = first; ending = refl; lines = refl; takes = refl }),
-      is script items holds,
-      refl,
-    )
-
-pub text-other : (text : List ℕ) (due : Due)
-    → ((class script : List ℕ) → (items : List Item) → IsFirst text class script items → ⊥)
-    → IsDue due TextRefused (not_yet (length text)).text
-    → (o : Outcome) × (IsReported text o ⊎ IsNotYet text o) × IsDue due o.ending o.text × (o.takes ≡ length text)
-text-other text due other is = (not_yet (length text), inr (record { other = other; same = refl }), is, refl)
-
 -- what is due for a text that is a program, and for one that has a fault
 pub text-whole : {E : Type 0} (text : List ℕ) (tokens : List Token) (said : Said) (r : Result Due E) → HasTokens text tokens → Says text tokens said
-    → IfOk r (λ due. (o : Outcome) × (IsReported text o ⊎ IsNotYet text o) × IsDue due o.ending o.text × (o.takes ≡ length text))
+    → IfOk r (λ due. IsReport due (report_of said))
     → IfOk r (λ due. (o : Outcome) × IsReadAs text o × IsDue due o.ending o.text × (o.takes ≡ length text))
 text-whole text tokens said (Err e) read says is = tt
-text-whole text tokens said (Ok due) read says (o, of, is, takes) =
-    let whole : IsWhole text = record { tokens = tokens; read = read; said = said; says = says } in
-    (o, inr (whole, of), is, takes)
+text-whole text tokens said (Ok due) read says is =
+    let whole : IsWhole text (reported (report_of said) (length text)) =
+    record { tokens = tokens; read = read; said = said; says = says; same = refl } in
+    (reported (report_of said) (length text), inr whole, is, refl)
 
 text-faulty : (text : List ℕ) (fault : Fault) (due : Due) → IsFirstFault text fault → IsDue due TextRefused (fault_line text fault)
     → (o : Outcome) × IsReadAs text o × IsDue due o.ending o.text × (o.takes ≡ length text)

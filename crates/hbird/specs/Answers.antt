@@ -7,11 +7,9 @@ use Rattle.hb_lex.specs.declared.spans.Token.{Token}
 use Rattle.hb_lex.specs.Text.{HasTokens}
 use Rattle.hb_build.specs.Said.{Said}
 use Rattle.hb_parse.specs.Text.{Says}
-use Rattle.hb_first.specs.Items.{Item}
-use Rattle.hb_first.specs.First.{IsFirst}
 use Rattle.hbird.specs.Faults.{Fault, IsFirstFault, fault_line}
-use Rattle.hbird.specs.Outcomes.{Outcome, faulty, not_yet, status_of, too_long, words_refused}
-use Rattle.hbird.specs.Report.{report}
+use Rattle.hbird.specs.Outcomes.{Outcome, faulty, status_of, too_long, words_refused}
+use Rattle.hbird.specs.Report.{Report, report_of}
 use Rattle.hbird.specs.declared.due.Ending.TheVariants.{WordsRefused}
 use Rattle.hbird.specs.declared.jobs.Job.{Job}
 use Rattle.hbird.specs.declared.jobs.Job.TheVariants.{Run}
@@ -30,31 +28,21 @@ pub record IsFaulty (text : List ℕ) (o : Outcome) : Type 0 where
   pub first : IsFirstFault text fault
   pub same : o ≡ faulty (fault_line text fault) (length text)
 
--- the text is a program
-pub record IsWhole (text : List ℕ) : Type 0 where
+-- the report is due, and all of a text of this length was taken
+abbrev pub reported : Report → ℕ → Outcome
+reported r len = record { ending = r.ending; text = r.text; takes = len }
+
+-- the text is a program, whose report is due
+pub record IsWhole (text : List ℕ) (o : Outcome) : Type 0 where
   pub tokens : List Token
   pub read : HasTokens text tokens
   pub said : Said
   pub says : Says text tokens said
+  pub same : o ≡ reported (report_of said) (length text)
 
--- the text has the first form, and this is the report of its script
-pub record IsReported (text : List ℕ) (o : Outcome) : Type 0 where
-  pub class : List ℕ
-  pub script : List ℕ
-  pub items : List Item
-  pub first : IsFirst text class script items
-  pub ending : o.ending ≡ (report script items).ending
-  pub lines : o.text ≡ (report script items).text
-  pub takes : o.takes ≡ length text
-
--- the text does not have the first form
-pub record IsNotYet (text : List ℕ) (o : Outcome) : Type 0 where
-  pub other : (class script : List ℕ) → (items : List Item) → IsFirst text class script items → ⊥
-  pub same : o ≡ not_yet (length text)
-
--- a text within the limit has a fault, or is a program, and then its script is run, or it has another form
+-- a text within the limit has a fault, or is a program
 abbrev pub IsReadAs : List ℕ → Outcome → Type 0
-IsReadAs text o = IsFaulty text o ⊎ (IsWhole text × (IsReported text o ⊎ IsNotYet text o))
+IsReadAs text o = IsFaulty text o ⊎ IsWhole text o
 
 -- the text is too long, or it is read
 abbrev pub IsRunOf : List ℕ → Outcome → Type 0

@@ -3,7 +3,7 @@ use Rattle.std.specs.Prelude.{ℕ, List, [], ◌∷◌, Bool, true, false, ◌&&
 use Rattle.std.specs.List.{list_all, flat_map, zip}
 use Rattle.hb_types.specs.declared.types.Ty.{Ty}
 use Rattle.hb_types.specs.declared.types.Ty.TheVariants as ty
-use Rattle.hb_first.specs.Items.{Part, Literal, Parameter}
+use Rattle.hbird.specs.Items.{Part, Literal, Parameter}
 
 -- a method's type
 pub record Signature : Type 0 where

@@ -4,12 +4,14 @@ use Rattle.std.specs.Option.{option_map}
 use Rattle.hb_types.specs.declared.ids.BodySite.{BodySite}
 use Rattle.hb_types.specs.declared.ids.TypeSite.{TypeSite}
 use Rattle.hb_tree.specs.Table.{Table}
-use Rattle.hb_first.specs.Items.{Item, Place}
+use Rattle.hbird.specs.Items.{Item, Place}
 use Rattle.hbird.specs.declared.methods.Methods.{Methods}
 use Rattle.hbird.specs.declared.run.Run.{Run as Running}
 use Rattle.hbird.specs.Judgement.{Definition, Signature, found}
 use Rattle.hbird.specs.Report.{Run, report_from, stopped}
-use Rattle.hbird.specs.Said.{definition_at, name_at, signature_at}
+use Rattle.hb_build.specs.Said.{said_in}
+use Rattle.hbird.specs.Numbers.{definition_at, name_at}
+use Rattle.hbird.specs.Script.{signature_at}
 
 -- the site that gives a method its type, or its body, by the number of its name
 abbrev pub type_site : Methods → ℕ → Option TypeSite
@@ -36,7 +38,7 @@ pub record IsOf (t : Table) (m : Methods) : Type 0 where
 -- each name has the type and the definition that stand first under it
 pub record Knows (t : Table) (m : Methods) (known_types : List (List ℕ × Signature)) (known_defs : List (List ℕ × Definition)) : Type 0 where
   pub types : (name : ℕ) → name < length t.names
-      → found known_types (name_at t name) ≡ option_map (λ site. signature_at t site.0) (type_site m name)
+      → found known_types (name_at t name) ≡ option_map (λ site. signature_at (said_in t) site.0) (type_site m name)
   pub defs : (name : ℕ) → name < length t.names
       → found known_defs (name_at t name) ≡ option_map (λ site. definition_at t site.0) (body_site m name)
 

@@ -26,10 +26,6 @@ words_refused = record { ending = WordsRefused; text = codes "words refused\n"; 
 abbrev pub too_long : ℕ → Outcome
 too_long limit = record { ending = TextRefused; text = codes "text TooLong\n"; takes = limit + 1 }
 
--- the text, of this length, has another form than the first
-abbrev pub not_yet : ℕ → Outcome
-not_yet len = record { ending = TextRefused; text = codes "text NotYet\n"; takes = len }
-
 -- the text, of this length, has a fault with this line
 abbrev pub faulty : List ℕ → ℕ → Outcome
 faulty line len = record { ending = TextRefused; text = line; takes = len }

@@ -1,16 +1,19 @@
--- The report of a script of the first form, by its items.
+-- The report of a program: that of its script, item by item, where it has the first form.
 --
 -- A call that does not enter stops the script. Nothing else can: a body joins at most eight texts of
 -- at most 64 bytes, the arguments are texts, and 64 items pass no limit.
 use Rattle.std.specs.Prelude.{ℕ, ◌+◌, List, [], ◌∷◌, ◌++◌, nat_eq, Option, Some, None, codes, decimal, if◌then◌else◌}
 use Rattle.std.specs.List.{flat_map}
-use Rattle.hb_first.specs.Items.{Item, Typed, Defined, Printed, Place}
+use Rattle.hb_build.specs.Said.{Said}
+use Rattle.hbird.specs.Items.{Item, Typed, Defined, Printed, Place}
 use Rattle.hbird.specs.declared.due.Ending.{Ending}
-use Rattle.hbird.specs.declared.due.Ending.TheVariants.{Done, Stopped}
+use Rattle.hbird.specs.declared.due.Ending.TheVariants.{Done, Stopped, TextRefused}
 use Rattle.hbird.specs.declared.due.Due.{Due}
 use Rattle.hbird.specs.Judgement.{Definition, Signature}
 use Rattle.hbird.specs.Outcomes.{IsDue}
 use Rattle.hbird.specs.Verdict.{given}
+use Rattle.hbird.specs.First.{is_first}
+use Rattle.hbird.specs.Script.{script_items, script_name}
 
 -- what a run has so far: the newest types and definitions first, the lines, and the calls reached and entered
 pub record Run : Type 0 where
@@ -79,6 +82,14 @@ script_line script = codes "script " ++ script ++ codes "\n"
 
 abbrev pub report : List ℕ → List Item → Report
 report script items = report_from (start (script_line script)) items
+
+-- the program has another form
+abbrev pub not_yet : Report
+not_yet = record { ending = TextRefused; text = codes "text NotYet\n" }
+
+-- the report of a program
+abbrev pub report_of : Said → Report
+report_of said = if is_first said then report (script_name said) (script_items said) else not_yet
 
 -- the code's value is this report
 abbrev pub IsReport : Due → Report → Type 0

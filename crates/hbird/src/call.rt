@@ -5,7 +5,9 @@ ghost use Rattle.std.specs.Option.{option_map};
 ghost use Rattle.hb_types.specs.Types.{params_of as param_types_of};
 ghost use Rattle.hbird.specs.Judgement.{Definition, Signature, is_judged};
 ghost use Rattle.hbird.specs.Known.{IsOf, Knows};
-ghost use Rattle.hbird.specs.Said.{AreNamesIn, AreTextsIn, IsPartIn, definition_at, name_at, names_at, part_of, signature_at, texts_at};
+ghost use Rattle.hb_build.specs.Said.{said_in};
+ghost use Rattle.hbird.specs.Numbers.{AreNamesIn, AreTextsIn, IsPartIn, definition_at, name_at, names_at, part_of, texts_at};
+ghost use Rattle.hbird.specs.Script.{signature_at};
 ghost use Rattle.hbird.specs.Verdict.{given, given_on, takes_count, verdict_on};
 
 use crate::judge::{is_judged, takes_texts, value};
@@ -70,7 +72,7 @@ fn given_by(
     ensures { let def = definition_at prog.now body.0 in
         let texts = texts_at prog.now args.now in
         IfOk result (λ found. option_map (λ v. v.items) found
-        ≡ given_on (verdict_on (Some def) (Some (signature_at prog.now declared.0)) texts)
+        ≡ given_on (verdict_on (Some def) (Some (signature_at (said_in prog.now) declared.0)) texts)
         (Some def) texts) }
 {
     let ty = prog.type_of(declared);

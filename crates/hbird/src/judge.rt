@@ -4,7 +4,7 @@ ghost use Rattle.std.specs.Prelude.{◌≡◌, ◌↔◌, ◌<◌, ◌≤◌, Al
 ghost use Rattle.std.specs.List.{flat_map, list_all, position_or_len, zip};
 ghost use Rattle.hb_types.specs.Types.{IsBelow};
 ghost use Rattle.hbird.specs.Judgement.{Definition, Signature, fits, is_below, is_joined, is_judged, joined_type, part_type, part_value, value_of};
-ghost use Rattle.hbird.specs.Said.{AreNamesIn, AreTextsIn, IsPartIn, name_at, names_at, part_of, texts_at};
+ghost use Rattle.hbird.specs.Numbers.{AreNamesIn, AreTextsIn, IsPartIn, name_at, names_at, part_of, texts_at};
 
 use crate::parts::Part;
 use hb_tree::program::Program;

@@ -4,6 +4,7 @@
 mod call;
 mod due;
 mod faults;
+mod first;
 mod jobs;
 mod judge;
 mod methods;

@@ -4,7 +4,9 @@ ghost use Rattle.std.specs.Prelude.{◌≡◌, ◌<◌, ◌++◌, All, IfOk, OnO
 ghost use Rattle.std.specs.List.{AllByRecursion};
 ghost use Rattle.hb_tree.specs.Nodes.{numbers_of};
 ghost use Rattle.hb_tree.specs.TreeAt.{IsBlockAt, forest_at, tree_at};
-ghost use Rattle.hbird.specs.Said.{AreTextsIn, IsPartIn, args_in, part_of, parts_in, parts_in_block, texts_at, texts_in};
+ghost use Rattle.hb_build.specs.Said.{said_in};
+ghost use Rattle.hbird.specs.Numbers.{AreTextsIn, IsPartIn, part_of, texts_at};
+ghost use Rattle.hbird.specs.Script.{args_in, parts_in, parts_in_block, texts_in};
 
 use hb_tree::node::{Node, Op};
 use hb_tree::program::Program;
@@ -22,7 +24,7 @@ pub enum Part {
 fn push_parts(prog: &Program, id: NodeId, parts: &mut Vec<Part>) -> Result<(), AllocError>
     requires { id.0 < length prog.now.nodes }
     ensures joined { OnOk result (map (part_of prog.now) parts.new.items
-        ≡ map (part_of prog.now) parts.old.items ++ parts_in prog.now (tree_at prog.now id.0)) }
+        ≡ map (part_of prog.now) parts.old.items ++ parts_in (said_in prog.now) (tree_at prog.now id.0)) }
     ensures known { All (IsPartIn prog.now) parts.old.items
         → OnOk result (All (IsPartIn prog.now) parts.new.items) }
 {
@@ -42,7 +44,7 @@ fn push_parts(prog: &Program, id: NodeId, parts: &mut Vec<Part>) -> Result<(), A
 pub fn parts_of(alloc: Global, prog: &Program, block: NodeId) -> Result<Vec<Part>, AllocError>
     requires { IsBlockAt prog.now block.0 }
     ensures joined { IfOk result (λ v. map (part_of prog.now) v.items
-        ≡ parts_in_block prog.now (tree_at prog.now block.0)) }
+        ≡ parts_in_block (said_in prog.now) (tree_at prog.now block.0)) }
     ensures known { IfOk result (λ v. All (IsPartIn prog.now) v.items) }
 {
     let mut parts = Vec::new(alloc);
@@ -58,7 +60,7 @@ pub fn parts_of(alloc: Global, prog: &Program, block: NodeId) -> Result<Vec<Part
 fn push_text(prog: &Program, id: NodeId, texts: &mut Vec<TextId>) -> Result<(), AllocError>
     requires { id.0 < length prog.now.nodes }
     ensures values { OnOk result (texts_at prog.now texts.new.items
-        ≡ texts_at prog.now texts.old.items ++ texts_in prog.now (tree_at prog.now id.0)) }
+        ≡ texts_at prog.now texts.old.items ++ texts_in (said_in prog.now) (tree_at prog.now id.0)) }
     ensures known { AreTextsIn prog.now texts.old.items
         → OnOk result (AreTextsIn prog.now texts.new.items) }
 {
@@ -72,7 +74,7 @@ fn push_text(prog: &Program, id: NodeId, texts: &mut Vec<TextId>) -> Result<(), 
 pub fn texts_of(alloc: Global, prog: &Program, ids: &[NodeId]) -> Result<Vec<TextId>, AllocError>
     requires { AllByRecursion (λ j. j < length prog.now.nodes) (numbers_of ids.now) }
     ensures values { IfOk result (λ v. texts_at prog.now v.items
-        ≡ args_in prog.now (forest_at (tree_at prog.now) ids.now)) }
+        ≡ args_in (said_in prog.now) (forest_at (tree_at prog.now) ids.now)) }
     ensures known { IfOk result (λ v. AreTextsIn prog.now v.items) }
 {
     let mut texts = Vec::new(alloc);

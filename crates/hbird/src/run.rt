@@ -2,12 +2,13 @@
 
 ghost use Rattle.std.specs.Prelude.{◌≡◌, ◌<◌, ◌≤◌, ◌+◌, ◌-◌, ◌^◌, ◌++◌, ℕ, List, All, IfOk, codes, length};
 ghost use Rattle.hb_tree.specs.TreeAt.{forest_at, tree_at};
-ghost use Rattle.hb_first.specs.Items.{Item, Place};
-ghost use Rattle.hb_first.specs.Held.{Holds};
+ghost use Rattle.hbird.specs.Items.{Place};
 ghost use Rattle.hbird.specs.Outcomes.{IsDue};
 ghost use Rattle.hbird.specs.Known.{IsOf, Stands};
 ghost use Rattle.hbird.specs.Report.{IsReport, Run as Meant, count_line, report, report_from, script_line, start, stop_line, with_def, with_type};
-ghost use Rattle.hbird.specs.Said.{definition_at, name_at, printed_by, said, said_by_all, signature_at};
+ghost use Rattle.hb_build.specs.Said.{said_in};
+ghost use Rattle.hbird.specs.Numbers.{definition_at, name_at};
+ghost use Rattle.hbird.specs.Script.{item_in, items_in, printed_by, script_items, script_name, signature_at};
 
 use crate::call::given;
 use crate::due::{Due, Ending};
@@ -59,7 +60,7 @@ impl Run {
         requires room { HasRoom self.old }
         requires known { IsOf prog.now self.old.methods }
         ensures steps { (run : Meant) → Stands prog.now self.old run
-            → IfOk result (StepsTo prog.now run (printed_by prog.now (tree_at prog.now id.0)) self.new) }
+            → IfOk result (StepsTo prog.now run (printed_by (said_in prog.now) (tree_at prog.now id.0)) self.new) }
         ensures known { IsOf prog.now self.new.methods }
         ensures calls { self.new.calls ≤ self.old.calls + 1 }
         ensures entered { self.new.entered ≤ self.old.entered + 1 }
@@ -85,7 +86,7 @@ impl Run {
         requires site { site.0 < length prog.now.types }
         requires known { IsOf prog.now self.old.methods }
         ensures stands { (run : Meant) → Stands prog.now self.old run → Stands prog.now self.new
-            (with_type run (name_at prog.now name.0) (signature_at prog.now site.0)) }
+            (with_type run (name_at prog.now name.0) (signature_at (said_in prog.now) site.0)) }
         ensures known { IsOf prog.now self.new.methods }
         ensures counts { SameCounts self.old self.new }
     {
@@ -120,7 +121,7 @@ impl Run {
         requires room { HasRoom self.old }
         requires known { IsOf prog.now self.old.methods }
         ensures steps { (run : Meant) → Stands prog.now self.old run
-            → IfOk result (StepsTo prog.now run (said prog.now (tree_at prog.now id.0)) self.new) }
+            → IfOk result (StepsTo prog.now run (item_in (said_in prog.now) (tree_at prog.now id.0)) self.new) }
         ensures known { IsOf prog.now self.new.methods }
         ensures calls { self.new.calls ≤ self.old.calls + 1 }
         ensures entered { self.new.entered ≤ self.old.entered + 1 }
@@ -179,7 +180,7 @@ fn report_from(
     requires begun { (run.calls ≡ 0) × (run.entered ≡ 0) }
     requires known { IsOf prog.now run.methods }
     ensures { (meant : Meant) → Stands prog.now run meant → IfOk result (λ due. IsReport due
-        (report_from meant (said_by_all prog.now (forest_at (tree_at prog.now) items.now)))) }
+        (report_from meant (items_in (said_in prog.now) (forest_at (tree_at prog.now) items.now)))) }
 {
     for item in items {
         if let Some((line, column)) = run.step(alloc, prog, *item)? {
@@ -189,11 +190,11 @@ fn report_from(
     run.done(alloc)
 }
 
-/// The report of the one script of a program of the first form.
+/// The report of the first script of a program.
 pub fn report(alloc: Global, prog: &Program) -> Result<Due, AllocError>
-    requires { (script : List ℕ) × (items : List Item) × Holds prog.now script items }
-    ensures { (script : List ℕ) → (items : List Item) → Holds prog.now script items
-        → IfOk result (λ due. IsReport due (report script items)) }
+    requires { 0 < length prog.now.scripts }
+    ensures { IfOk result (λ due. IsReport due
+        (report (script_name (said_in prog.now)) (script_items (said_in prog.now)))) }
 {
     let (name, block) = prog.script(0);
     let run = Run::new(alloc, prog, name)?;

@@ -1,6 +1,6 @@
 use super::*;
 use hb_io::{MemSink, MemSource};
-use std::alloc::Global;
+use std::alloc::{AllocError, Global};
 use std::test::Fail;
 
 const GREETING: &str =
@@ -107,6 +107,12 @@ fn answers_by_words_bytes_and_faults(rt: HostRuntime) -> Result<(), Fail> {
             0,
             "script s\n> a\\\\b\\n\\tc\ndone\ncalls 1 own 0 shared 0 fresh 1\n",
         ),
+        // Parentheses, and none behind a call without arguments.
+        on_text(
+            "class A script s; type A.m : () -> Str; def A.m() (\"a\" ++ (\"b\" ++ \"c\")) end; print (A.new).m end",
+            0,
+            "script s\n> abc\ndone\ncalls 1 own 0 shared 0 fresh 1\n",
+        ),
     ];
     for row in &rows {
         let (status, written) = answer(rt.alloc(), row)?;
@@ -124,6 +130,93 @@ fn a_text_is_too_long_by_one_byte(rt: HostRuntime) -> Result<(), Fail> {
         let mut sink = MemSink::new(rt.alloc(), 4096, 4096, Vec::new(rt.alloc()))?;
         assert_eq!(rt; hbird(rt.alloc(), &["run"], &mut source, &mut sink), 1);
         assert_eq!(rt; sink.bytes(), written.as_bytes());
+    }
+    Ok(())
+}
+
+/// Programs, and whether each has the first form.
+const PROGRAMS: [(&str, bool); 27] = [
+    ("class A\nscript main\nend", true),
+    (
+        "# one\n;; class A # two\n\n; script main;;end;\n# three",
+        true,
+    ),
+    ("class A;script s;print A.new.hi(\n\"a\",\n\"b\");end", true),
+    ("class A;script s;type A.m : (Str, A) -> Any;end", true),
+    (
+        "class A;script s;def A.m(x, y) x ++ (z ++ \"a\");end;end",
+        true,
+    ),
+    ("", false),
+    ("script s end", false),
+    ("class A", false),
+    ("class A;class B;script s;end", false),
+    ("class A;setup;end;script s;end", false),
+    ("class A;script s;end;script t;end", false),
+    ("class A;script s;type? A.m : () -> Str;end", false),
+    ("class A;script s;type A.(\"m\") : () -> Str;end", false),
+    ("class A;script s;def A.(\"m\")() \"a\" end;end", false),
+    ("class A;script s;def A.m() end;end", false),
+    ("class A;script s;def A.m() x; x end;end", false),
+    ("class A;script s;def A.m() 1 end;end", false),
+    ("class A;script s;def A.m() x + x end;end", false),
+    ("class A;script s;def A.m() x ++ 1 end;end", false),
+    ("class A;script s;def A.m() x ++ str(x) end;end", false),
+    ("class A;script s;print \"a\";end", false),
+    ("class A;script s;print A.new;end", false),
+    ("class A;script s;print A.new.m(x);end", false),
+    ("class A;script s;print A.new.m(\"a\" ++ \"b\");end", false),
+    ("class A;script s;print x.m();end", false),
+    ("class A;script s;print A.new.m().m();end", false),
+    ("class A;script s;A.new.m();end", false),
+];
+
+#[test]
+fn programs_of_the_first_form_run(rt: HostRuntime) -> Result<(), Fail> {
+    for (text, runs) in PROGRAMS {
+        let (_, written) = answer(rt.alloc(), &on_text(text, 0, ""))?;
+        assert_eq!(rt; written.as_str() != "text NotYet\n", runs, "at {text:?}");
+    }
+    Ok(())
+}
+
+/// A text with so many items, each a definition of so many parts, of so many bytes.
+fn defining(alloc: Global, items: usize, parts: usize, len: usize) -> Result<String, AllocError> {
+    let mut text = String::from_str(alloc, "class A;script s;")?;
+    for _ in 0..items {
+        text.push_str("def A.m() ")?;
+        for part in 0..parts {
+            text.push_str(if part == 0 { "\"" } else { " ++ \"" })?;
+            for _ in 0..len {
+                text.push('v')?;
+            }
+            text.push('"')?;
+        }
+        text.push_str(" end;")?;
+    }
+    text.push_str("end")?;
+    Ok(text)
+}
+
+#[test]
+fn the_first_form_has_limits(rt: HostRuntime) -> Result<(), Fail> {
+    for (items, parts, len, status) in [
+        (1, 1, 64, 0),
+        (1, 1, 65, 1),
+        (1, 8, 1, 0),
+        (1, 9, 1, 1),
+        (64, 1, 1, 0),
+        (65, 1, 1, 1),
+    ] {
+        let text = defining(rt.alloc(), items, parts, len)?;
+        let input = text.as_bytes().to_vec(rt.alloc())?;
+        let mut source = MemSource::new(input, 4096, Vec::new(rt.alloc()));
+        let mut sink = MemSink::new(rt.alloc(), 4096, 4096, Vec::new(rt.alloc()))?;
+        assert_eq!(rt;
+            hbird(rt.alloc(), &["run"], &mut source, &mut sink),
+            status,
+            "at {items} {parts} {len}"
+        );
     }
     Ok(())
 }

@@ -1,23 +1,26 @@
 //! The top call: all that the program does, over any source and sink.
 
-ghost use Rattle.std.specs.Prelude.{◌≡◌, ◌≤◌, ◌⊎◌, ℕ, List, Err, IfOk, IsNone, OnErr, length, map};
+ghost use Rattle.std.specs.Prelude.{◌≡◌, ◌≤◌, ℕ, List, Err, IfOk, IsNone, OnErr, length, map};
 ghost use Rattle.std.specs.Io.KnownBytes.{Keeps};
 ghost use Rattle.std.specs.Option.{option_map};
 ghost use Rattle.hb_io.specs.Causes.{Rose};
 ghost use Rattle.hb_io.specs.Moves.{TakesCount};
-ghost use Rattle.hbird.specs.Answers.{Answers, Ends, IsDueFor, IsNotYet, IsReadAs, IsReported, IsRunOf, IsRunOutcome, Reads};
+ghost use Rattle.hb_build.specs.Said.{said_in};
+ghost use Rattle.hbird.specs.Answers.{Answers, Ends, IsDueFor, IsReadAs, IsRunOf, IsRunOutcome, Reads};
 ghost use Rattle.hbird.specs.Faults.{fault_line};
 ghost use Rattle.hbird.specs.Jobs.{job_of};
 ghost use Rattle.hbird.specs.Outcomes.{IsDue, IsRefused, Outcome, fault_of};
+ghost use Rattle.hbird.specs.Report.{IsReport, report_of};
 
 use crate::due::{Due, Ending, Stop};
 use crate::faults::{Fault, fault_line, lex_fault, parse_fault};
+use crate::first::is_first;
 use crate::jobs::{Job, job_asked};
 use crate::run::report;
-use hb_first::{FirstFail, one_reading, parse_first};
 use hb_io::{ReadFail, Sink, Source, read_all, write_all_of};
 use hb_lex::lex;
 use hb_parse::parse;
+use hb_tree::program::Program;
 use std::alloc::Global;
 
 /// The bytes of a text, at most.
@@ -42,18 +45,15 @@ fn refused(alloc: Global, text: &[u8], fault: Option<Fault>) -> Result<Due, Stop
     Ok(Due::new(alloc, Ending::TextRefused, &line)?)
 }
 
-// What a text comes to that is a program: the report of its script, or that it has another form than the first.
-fn run_whole(alloc: Global, text: &[u8]) -> Result<Due, Stop>
-    requires { length text.now ≤ LIMIT }
-    ensures due { IfOk result (λ due. (o : Outcome) × (IsReported text.now o ⊎ IsNotYet text.now o)
-        × IsDue due o.ending o.text × (o.takes ≡ length text.now)) }
+// The report of a program, or that it has another form than the first.
+fn run_whole(alloc: Global, program: &Program) -> Result<Due, Stop>
+    ensures due { IfOk result (λ due. IsReport due (report_of (said_in program.now))) }
     ensures memory { OnErr result (result ≡ Err Stop.Memory) }
 {
-    match parse_first(alloc, text) {
-        Ok(program) => Ok(report(alloc, &program)?),
-        Err(FirstFail::NotYet) => Ok(Due::new(alloc, Ending::TextRefused, "text NotYet\n")?),
-        Err(FirstFail::NoMemory) => Err(Stop::Memory),
+    if !is_first(alloc, program)? {
+        return Ok(Due::new(alloc, Ending::TextRefused, "text NotYet\n")?);
     }
+    Ok(report(alloc, program)?)
 }
 
 // What a text within the limit comes to.
@@ -68,7 +68,7 @@ fn run_text(alloc: Global, text: &[u8]) -> Result<Due, Stop>
         Err(fail) => return refused(alloc, text, lex_fault(fail)),
     };
     match parse(alloc, text, &tokens) {
-        Ok(_) => run_whole(alloc, text),
+        Ok(program) => run_whole(alloc, &program),
         Err(fail) => refused(alloc, text, parse_fault(fail)),
     }
 }
@@ -110,7 +110,6 @@ pub fn one_due()
 {
     hb_lex::one_answer();
     hb_parse::one_answer();
-    one_reading();
 }
 
 /// All that the program does: takes the words after its name, a source and a sink, and answers the

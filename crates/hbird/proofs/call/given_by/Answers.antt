@@ -1,5 +1,5 @@
 use Rattle.std.proofs.Common.{◌≡◌, ◌∙◌, true, false, Some, ap, map, rules, sym, List, ℕ}
-use Rattle.hbird.specs.Said.{part_of}
+use Rattle.hbird.specs.Numbers.{part_of}
 use Rattle.hbird.proofs.CallLemmas.{given-entered, given-refused}
 use Rattle.hbird.proofs.call.given_by.Goals as goal
 

@@ -2,7 +2,7 @@ use Rattle.std.proofs.Common.{◌≡◌, ◌∙◌, true, false, map, refl, rule
 use Rattle.std.specs.List.{list_all, zip}
 use Rattle.hbird.specs.declared.parts.Part.{Part}
 use Rattle.hbird.specs.Judgement.{is_joined}
-use Rattle.hbird.specs.Said.{names_at, part_of}
+use Rattle.hbird.specs.Numbers.{names_at, part_of}
 use Rattle.hbird.proofs.WalkLemmas.{test-end, test-fails, test-step}
 use Rattle.hbird.proofs.judge.are_joined.Goals as goal
 

@@ -1,7 +1,7 @@
 use Rattle.std.proofs.Common.{◌≡◌, drop, map}
 use Rattle.std.specs.List.{list_all, zip}
 use Rattle.hbird.specs.Judgement.{is_joined}
-use Rattle.hbird.specs.Said.{names_at, part_of}
+use Rattle.hbird.specs.Numbers.{names_at, part_of}
 use Rattle.hbird.proofs.judge.are_joined.Given as goal
 
 abbrev pub invariant-loop-part : goal.invariant-loop-part

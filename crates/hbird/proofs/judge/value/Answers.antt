@@ -2,7 +2,7 @@ use Rattle.std.proofs.Common.{◌∙◌, ◌++◌, ap, map, refl}
 use Rattle.std.specs.List.{flat_map, zip}
 use Rattle.hbird.specs.declared.parts.Part.{Part}
 use Rattle.hbird.specs.Judgement.{part_value}
-use Rattle.hbird.specs.Said.{names_at, part_of, texts_at}
+use Rattle.hbird.specs.Numbers.{names_at, part_of, texts_at}
 use Rattle.hbird.proofs.WalkLemmas.{walk-end, walk-step}
 use Rattle.hbird.proofs.judge.value.Goals as goal
 

@@ -1,7 +1,7 @@
 use Rattle.std.proofs.Common.{◌≡◌, ◌++◌, drop, map}
 use Rattle.std.specs.List.{flat_map, zip}
 use Rattle.hbird.specs.Judgement.{part_value}
-use Rattle.hbird.specs.Said.{names_at, part_of, texts_at}
+use Rattle.hbird.specs.Numbers.{names_at, part_of, texts_at}
 use Rattle.hbird.proofs.judge.value.Given as goal
 
 abbrev pub invariant-loop-part : goal.invariant-loop-part

@@ -2,13 +2,11 @@ use Rattle.hbird.proofs.OneDueLemmas.{one-due}
 use Rattle.hbird.proofs.top.one_due.Goals as goal
 
 pub returns : goal.returns
-returns c =
-    one-due
-    (record {
-      tokens = c.one_answer.ensures.tokens;
-      lex_apart = c.one_answer.ensures.apart;
-      lex_fault = c.one_answer.ensures.fault;
-      parse_apart = c.one_answer-2.ensures.apart;
-      parse_fault = c.one_answer-2.ensures.fault;
-    })
-    c.one_reading.ensures
+returns c = one-due (record {
+  tokens = c.one_answer.ensures.tokens;
+  lex_apart = c.one_answer.ensures.apart;
+  lex_fault = c.one_answer.ensures.fault;
+  said = c.one_answer-2.ensures.said;
+  parse_apart = c.one_answer-2.ensures.apart;
+  parse_fault = c.one_answer-2.ensures.fault;
+})

@@ -2,16 +2,18 @@ use Rattle.std.proofs.Common.{◌≡◌, ◌∙◌, ◌+◌, ◌++◌, List, ap,
 use Rattle.hb_tree.specs.Nodes.{args_of}
 use Rattle.hb_tree.specs.TreeAt.{forest_at, tree_at}
 use Rattle.hbird.specs.Report.{print_line, with_line}
-use Rattle.hbird.specs.Said.{args_in, texts_at}
+use Rattle.hb_build.specs.Said.{said_in}
+use Rattle.hbird.specs.Numbers.{texts_at}
+use Rattle.hbird.specs.Script.{args_in}
 use Rattle.hbird.proofs.CallLemmas.{given-is}
-use Rattle.hbird.proofs.StepLemmas.{print-goes}
+use Rattle.hbird.proofs.StepLemmas.{print-goes, print-stops}
 use Rattle.hbird.proofs.run.Run.print.Goals as goal
 
 pub returns-in-Some-clause-steps : goal.returns-in-Some-clause-steps
 returns-in-Some-clause-steps c = λ run h.
-    let texts : texts_at c.args.prog.now c.deref.result.now ≡ args_in c.args.prog.now (forest_at (tree_at c.args.prog.now) (args_of c.in-Call.args)) =
+    let texts : texts_at c.args.prog.now c.deref.result.now ≡ args_in (said_in c.args.prog.now) (forest_at (tree_at c.args.prog.now) (args_of c.in-Call.args)) =
     ap (texts_at c.args.prog.now) c.deref.ensures.value ∙ c.in_ok-args.ensures.values
-    ∙ ap (λ ids. args_in c.args.prog.now (forest_at (tree_at c.args.prog.now) ids)) c.arguments.ensures.value in
+    ∙ ap (λ ids. args_in (said_in c.args.prog.now) (forest_at (tree_at c.args.prog.now) ids)) c.arguments.ensures.value in
     record {
       next = with_line run c.in-Some.value.items;
       stands = record {
@@ -24,4 +26,16 @@ returns-in-Some-clause-steps c = λ run h.
       };
       same = print-goes c.args.prog.now run _ _ _ _ _ _ c.in-Call.ensures.tree
           (given-is run.types run.defs _ _ _ _ _ texts (c.in_ok-value.ensures run.types run.defs h.knows) c.in-Some.is);
+    }
+
+pub returns-clause-steps : goal.returns-clause-steps
+returns-clause-steps c = λ run h.
+    let texts : texts_at c.args.prog.now c.deref.result.now ≡ args_in (said_in c.args.prog.now) (forest_at (tree_at c.args.prog.now) (args_of c.in-Call.args)) =
+    ap (texts_at c.args.prog.now) c.deref.ensures.value ∙ c.in_ok-args.ensures.values
+    ∙ ap (λ ids. args_in (said_in c.args.prog.now) (forest_at (tree_at c.args.prog.now) ids)) c.arguments.ensures.value in
+    record {
+      stands = record { knows = h.knows; lines = h.lines; calls = h.calls; entered = h.entered };
+      same = print-stops c.args.prog.now run _ _ _ _ _ _ _ c.in-Call.ensures.tree
+          (given-is run.types run.defs _ _ _ _ _ texts (c.in_ok-value.ensures run.types run.defs h.knows) c.in-None.is)
+          c.place.ensures;
     }
