@@ -1,5 +1,5 @@
 -- The tokens of a program's canonical text are a program's, and what is done for them is known.
-use Rattle.std.proofs.Common.{◌≡◌, ℕ, zero, suc, pos, negsuc, ◌<◌, ◌≤ℤ◌, List, [], ◌∷◌, ◌++◌, map, Bool, true, false, Option, Some, None, Ok, refl, sym, ◌∙◌, ap, subst, arith}
+use Rattle.std.proofs.Common.{◌≡◌, ℕ, zero, suc, pos, negsuc, ◌<◌, ◌≤ℤ◌, List, [], ◌∷◌, ◌++◌, map, Bool, true, false, Option, Some, None, Ok, refl, sym, subst, arith}
 use Rattle.std.specs.Prelude.{slice_get, IfSome, IsSomeAnd}
 use Rattle.std.specs.Option.{option_map}
 use Rattle.std.specs.List.{AllByRecursion, flat_map}
@@ -9,7 +9,6 @@ use Rattle.std.proofs.lemmas.Option.{slice_get-map}
 use Rattle.hb_lex.specs.declared.kinds.TokenKind.{TokenKind}
 use Rattle.hb_lex.specs.declared.kinds.TokenKind.TheVariants as k
 use Rattle.hb_lex.specs.declared.spans.Token.{Token}
-use Rattle.hb_lex.specs.Tokens.{bytes_of}
 use Rattle.hb_lex.specs.Text.{HasTokens}
 use Rattle.hb_lex.proofs.One.{one_answer}
 use Rattle.hb_types.specs.declared.ids.NameId.{NameId}
@@ -41,7 +40,7 @@ use Rattle.hb_canonical.specs.Deeds as does
 use Rattle.hb_canonical.specs.Deeds.{Deed, deed, plain, deeds_in, deeds_of}
 use Rattle.hb_canonical.proofs.CanonicalLemmas.{canonical_pieces}
 use Rattle.hb_canonical.proofs.PerformLemmas.{number-anew, text-anew}
-use Rattle.hb_canonical.proofs.SentenceLemmas.{Sentence, over, token, action, looks, choose, split, join, piece_kinds, piece_bytes, derives, acts}
+use Rattle.hb_canonical.proofs.SentenceLemmas.{Sentence, over, token, action, looks, choose, split, join, piece_kinds, derives, acts}
 use Rattle.hb_canonical.proofs.DeriveLemmas as d
 use Rattle.hb_canonical.proofs.DeriveLemmas.{Leads, Holds, AsExpression, AreExpressions, AsPostfix, AsBlock, whole, value}
 

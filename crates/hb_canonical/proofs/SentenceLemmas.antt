@@ -1,5 +1,5 @@
 -- Pieces that the grammar derives, with the deeds on the way; and that these are the deeds of the text with the pieces' tokens.
-use Rattle.std.proofs.Common.{◌≡◌, ℕ, zero, suc, ◌+◌, List, [], ◌∷◌, ◌++◌, map, drop, slice_get, Bool, true, false, Some, None, refl, sym, ◌∙◌, ap, subst, inl, inr, add-one, append_assoc}
+use Rattle.std.proofs.Common.{◌≡◌, ℕ, zero, suc, ◌+◌, List, [], ◌∷◌, ◌++◌, map, drop, slice_get, Bool, true, false, None, refl, sym, ◌∙◌, ap, subst, inl, inr, add-one, append_assoc}
 use Rattle.hb_lex.specs.declared.kinds.TokenKind.{TokenKind}
 use Rattle.hb_lex.specs.declared.spans.Token.{Token}
 use Rattle.hb_lex.specs.Tokens.{bytes_of}
