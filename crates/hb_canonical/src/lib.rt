@@ -4,5 +4,5 @@
 mod canonical;
 mod source;
 
-pub use canonical::canonical_tokens;
+pub use canonical::{canonical_deeds, canonical_tokens};
 pub use source::{deeds_build, source_depth, source_words};
