@@ -1,8 +1,9 @@
 -- The three ways in which a type is below another, as equations.
-use Rattle.std.proofs.Common.{◌≡◌, ◌⊎◌, inl, inr, refl, sym, subst}
+use Rattle.std.proofs.Common.{◌≡◌, ◌⊎◌, ℕ, inl, inr, refl, sym, ap, subst, Bool, true, false, ◌||◌, eq-eqb}
+use Rattle.std.proofs.lemmas.Bool.{eqb-true}
 use Rattle.hb_types.specs.declared.types.Ty.{Ty}
 use Rattle.hb_types.specs.declared.types.Ty.TheVariants as ty
-use Rattle.hb_types.specs.Types.{IsBelow, below_itself, nil_below, below_any}
+use Rattle.hb_types.specs.Types.{IsBelow, below_itself, nil_below, below_any, is_nil, is_any, same_ty, is_below}
 
 pub is_below_cases : (a b : Ty) → IsBelow a b → (a ≡ b) ⊎ ((a ≡ ty.Nil) ⊎ (b ≡ ty.Any))
 is_below_cases a _ below_itself = inl refl
@@ -17,3 +18,90 @@ is_below_nil a b e = subst (λ c. IsBelow c b) (sym e) nil_below
 
 pub is_below_any : (a b : Ty) → b ≡ ty.Any → IsBelow a b
 is_below_any a b e = subst (λ c. IsBelow a c) (sym e) below_any
+
+below-itself : (a : Ty) → is_below a a ≡ true
+below-itself ty.Nil = refl
+below-itself ty.Bool = refl
+below-itself ty.Int = refl
+below-itself ty.Str = refl
+below-itself ty.Any = refl
+below-itself (ty.Class c) = eq-eqb c.0 c.0 refl
+
+either-true : (b : Bool) → (b || true) ≡ true
+either-true true = refl
+either-true false = refl
+
+pub is_below_of : (a b : Ty) → IsBelow a b → is_below a b ≡ true
+is_below_of a _ below_itself = below-itself a
+is_below_of _ b nil_below = refl
+is_below_of a _ below_any = ap (λ b. b || same_ty a ty.Any) (either-true (is_nil a))
+
+pub same_ty_is : (a b : Ty) → same_ty a b ≡ true → a ≡ b
+same_ty_is ty.Nil ty.Nil h = refl
+same_ty_is ty.Nil ty.Bool h = absurd (cc)
+same_ty_is ty.Nil ty.Int h = absurd (cc)
+same_ty_is ty.Nil ty.Str h = absurd (cc)
+same_ty_is ty.Nil ty.Any h = absurd (cc)
+same_ty_is ty.Nil (ty.Class d) h = absurd (cc)
+same_ty_is ty.Bool ty.Nil h = absurd (cc)
+same_ty_is ty.Bool ty.Bool h = refl
+same_ty_is ty.Bool ty.Int h = absurd (cc)
+same_ty_is ty.Bool ty.Str h = absurd (cc)
+same_ty_is ty.Bool ty.Any h = absurd (cc)
+same_ty_is ty.Bool (ty.Class d) h = absurd (cc)
+same_ty_is ty.Int ty.Nil h = absurd (cc)
+same_ty_is ty.Int ty.Bool h = absurd (cc)
+same_ty_is ty.Int ty.Int h = refl
+same_ty_is ty.Int ty.Str h = absurd (cc)
+same_ty_is ty.Int ty.Any h = absurd (cc)
+same_ty_is ty.Int (ty.Class d) h = absurd (cc)
+same_ty_is ty.Str ty.Nil h = absurd (cc)
+same_ty_is ty.Str ty.Bool h = absurd (cc)
+same_ty_is ty.Str ty.Int h = absurd (cc)
+same_ty_is ty.Str ty.Str h = refl
+same_ty_is ty.Str ty.Any h = absurd (cc)
+same_ty_is ty.Str (ty.Class d) h = absurd (cc)
+same_ty_is ty.Any ty.Nil h = absurd (cc)
+same_ty_is ty.Any ty.Bool h = absurd (cc)
+same_ty_is ty.Any ty.Int h = absurd (cc)
+same_ty_is ty.Any ty.Str h = absurd (cc)
+same_ty_is ty.Any ty.Any h = refl
+same_ty_is ty.Any (ty.Class d) h = absurd (cc)
+same_ty_is (ty.Class c) ty.Nil h = absurd (cc)
+same_ty_is (ty.Class c) ty.Bool h = absurd (cc)
+same_ty_is (ty.Class c) ty.Int h = absurd (cc)
+same_ty_is (ty.Class c) ty.Str h = absurd (cc)
+same_ty_is (ty.Class c) ty.Any h = absurd (cc)
+same_ty_is (ty.Class c) (ty.Class d) h = ap (λ (n : ℕ). ty.Class (record { 0 = n })) (eqb-true c.0 d.0 h)
+
+pub same_ty_itself : (a : Ty) → same_ty a a ≡ true
+same_ty_itself ty.Nil = refl
+same_ty_itself ty.Bool = refl
+same_ty_itself ty.Int = refl
+same_ty_itself ty.Str = refl
+same_ty_itself ty.Any = refl
+same_ty_itself (ty.Class c) = eq-eqb c.0 c.0 refl
+
+nil-is : (a : Ty) → is_nil a ≡ true → a ≡ ty.Nil
+nil-is ty.Nil h = refl
+nil-is ty.Bool h = absurd (cc)
+nil-is ty.Int h = absurd (cc)
+nil-is ty.Str h = absurd (cc)
+nil-is ty.Any h = absurd (cc)
+nil-is (ty.Class c) h = absurd (cc)
+
+any-is : (a : Ty) → is_any a ≡ true → a ≡ ty.Any
+any-is ty.Nil h = absurd (cc)
+any-is ty.Bool h = absurd (cc)
+any-is ty.Int h = absurd (cc)
+any-is ty.Str h = absurd (cc)
+any-is ty.Any h = refl
+any-is (ty.Class c) h = absurd (cc)
+
+pub is_below_from : (a b : Ty) → is_below a b ≡ true → IsBelow a b
+is_below_from a b h = go (is_nil a) refl (is_any b) refl h
+  where
+    go : (p : Bool) → is_nil a ≡ p → (q : Bool) → is_any b ≡ q → (p || q || same_ty a b) ≡ true → IsBelow a b
+    go true e q f h = is_below_nil a b (nil-is a e)
+    go false e true f h = is_below_any a b (any-is b f)
+    go false e false f h = is_below_same a b (same_ty_is a b h)

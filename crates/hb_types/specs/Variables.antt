@@ -41,6 +41,12 @@ abbrev pub join : Variables → Variables → Variables
 join [] others = []
 join (v ∷ rest) others = joined v (get others v.0.0) (join rest others)
 
+-- the type of a name in the join
+abbrev pub both : Option Ty → Option Ty → Option Ty
+both None u = None
+both (Some t) None = None
+both (Some t) (Some u) = Some (join_of t u)
+
 abbrev pub stays_below : Ty → Option Ty → Bool
 stays_below t None = false
 stays_below t (Some u) = is_below u t

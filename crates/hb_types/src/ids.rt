@@ -9,7 +9,7 @@ pub struct KeyId(pub u16);
 pub struct ClassId(pub u16);
 
 /// One of the different names of a program.
-#[derive(Clone, Copy, Debug, PartialEq, Eq, Hash, PartialOrd, Ord)]
+#[derive(Clone, Copy, Debug, Default, PartialEq, Eq, Hash, PartialOrd, Ord)]
 pub struct NameId(pub u32);
 
 /// One of the text literals of a program.

@@ -9,8 +9,9 @@ use crate::ids::ClassId;
 pub const PARAMS_MAX: usize = 4;
 
 /// The type of a value.
-#[derive(Clone, Copy, Debug, PartialEq, Eq, Hash)]
+#[derive(Clone, Copy, Debug, Default, PartialEq, Eq, Hash)]
 pub enum Ty {
+    #[default]
     Nil,
     Bool,
     Int,
