@@ -1,6 +1,7 @@
 //! The checker of method bodies: it is exactly the judgement.
 #![tactic(auto)]
 
+mod looking;
 pub mod lookup;
-pub mod notes;
-pub mod rules;
+mod notes;
+mod rules;

@@ -5,6 +5,7 @@ ghost use Rattle.hb_types.specs.Variables.{Variables};
 ghost use Rattle.hb_deriv.specs.Events.{Done, done};
 ghost use Rattle.hb_deriv.specs.Derivation.{Sites};
 ghost use Rattle.hb_check.specs.Asked.{Asked, Refusal};
+ghost use Rattle.hb_check.specs.Looking.{site_among};
 ghost use Rattle.hb_check.specs.Rules.{concluded};
 ghost use Rattle.hb_check.specs.Runs.{Runs, state, with_variables};
 
@@ -12,7 +13,7 @@ use crate::lookup::LookFail;
 use hb_deriv::ill::{Ill, Reason};
 use hb_deriv::raw::{Step, Used};
 use hb_types::env::EnvFull;
-use hb_types::ids::NodeId;
+use hb_types::ids::{ClassId, NameId, NodeId, TypeSite};
 use hb_types::types::Ty;
 use std::alloc::{AllocFailed, Global};
 
@@ -80,6 +81,18 @@ impl Notes {
             uses: Vec::new(alloc),
             steps: Vec::new(alloc),
         }
+    }
+
+    /// The site that a lookup answered for a method, where it was asked before.
+    pub fn site_of(&self, class: ClassId, name: NameId) -> Option<TypeSite>
+        ensures { result ≡ site_among self.now.uses.items (class.0, name.0) }
+    {
+        for used in &self.uses {
+            if used.class == class && used.name == name {
+                return Some(used.site);
+            }
+        }
+        None
     }
 
     /// An expression is finished, and has this type.

@@ -1,0 +1,5 @@
+pub mod JudgementLemmas
+pub mod FaultLemmas
+pub mod AlikeLemmas
+pub mod OnwardLemmas
+pub mod KeyLemmas
