@@ -1,3 +1,4 @@
 mod LookLemmas
+mod PartLemmas
 mod RuleLemmas
 mod RunLemmas

@@ -122,7 +122,7 @@ agrees_before declared old more new e h = agrees_front declared old more (subst 
 
 -- ── parts ──
 
-leaves_wider : {X : Type 0} (names others : List ℕ) (new : State) (result : Result (Variables × X) Stop) → Within names others → Leaves names new result → Leaves others new result
+pub leaves_wider : {X : Type 0} (names others : List ℕ) (new : State) (result : Result (Variables × X) Stop) → Within names others → Leaves names new result → Leaves others new result
 leaves_wider names others new (Ok r) w h = (h.0, λ x i. w x (h.1 x i))
 leaves_wider names others new (Err (stop.Ill i)) w h = h
 leaves_wider names others new (Err (stop.Look cause)) w h = h

@@ -110,3 +110,8 @@ pub record Runs {X : Type 0} (sites : Sites) (verdict : Types → Verdict (Varia
 abbrev pub with_variables : {X : Type 0} → Variables → Result X Stop → Result (Variables × X) Stop
 with_variables G (Ok x) = Ok (G, x)
 with_variables G (Err e) = Err e
+
+-- the same, where contracts see the result as a list
+abbrev pub with_list : {X : Type 0} → (X → List Ty) → Variables → Result X Stop → Result (Variables × List Ty) Stop
+with_list list G (Ok x) = Ok (G, list x)
+with_list list G (Err e) = Err e

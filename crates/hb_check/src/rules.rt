@@ -1,9 +1,11 @@
 //! The rules of the judgement that look at types alone.
 
-ghost use Rattle.std.specs.Prelude.{◌≡◌, ℕ, Some, length};
+ghost use Rattle.std.specs.Prelude.{◌≡◌, ℕ, Some, Ok, length, if◌then◌else◌};
 ghost use Rattle.hb_types.specs.Types.{IsMethodTy};
 ghost use Rattle.hb_types.specs.Variables.{Variables};
-ghost use Rattle.hb_deriv.specs.Judge.{all_below, called, named as named_by, operands as operands_by};
+ghost use Rattle.hb_types.specs.declared.types.Ty.TheVariants as ty;
+ghost use Rattle.hb_deriv.specs.declared.ill.Reason.TheVariants as reason;
+ghost use Rattle.hb_deriv.specs.Judge.{all_below, called, declaration_type, fault, named as named_by, operands as operands_by, variable_type};
 ghost use Rattle.hb_check.specs.Rules.{concluded};
 
 use hb_deriv::ill::Reason;
@@ -67,4 +69,33 @@ fn all_below(types: &[Ty], limits: &[Ty]) -> bool
         }
     }
     true
+}
+
+/// What a variable gives, by what is known of it.
+pub fn variable(known: Option<Ty>) -> Result<Ty, Reason>
+    ensures { (id : ℕ) (G : Variables) → variable_type id G known ≡ concluded id G result }
+{
+    known.ok_or(Reason::Unbound)
+}
+
+/// What a loop gives, by whether a turn keeps each variable below its type.
+pub fn looped(keeps: bool) -> Result<Ty, Reason>
+    ensures { (id : ℕ) (G : Variables) → (if keeps then Ok (G, ty.Nil) else fault id reason.Loop) ≡ concluded id G result }
+{
+    if keeps {
+        Ok(Ty::Nil)
+    } else {
+        Err(Reason::Loop)
+    }
+}
+
+/// What a declaration gives: one that asks tells whether it changed the type.
+pub fn declared(asks: bool) -> Ty
+    ensures { result ≡ declaration_type asks }
+{
+    if asks {
+        Ty::Bool
+    } else {
+        Ty::Nil
+    }
 }
