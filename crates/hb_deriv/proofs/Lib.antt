@@ -3,3 +3,8 @@ pub mod FaultLemmas
 pub mod AlikeLemmas
 pub mod OnwardLemmas
 pub mod KeyLemmas
+pub mod WalkLemmas
+pub mod AlongLemmas
+pub mod GoodLemmas
+pub mod LookLemmas
+pub mod Examples

@@ -2,4 +2,5 @@
 #![tactic(auto)]
 
 pub mod ill;
+pub mod laws;
 pub mod raw;

@@ -20,7 +20,7 @@ pub const NODES_IN_BODY_MAX: usize = 4_096;
 pub const CALLS_IN_BODY_MAX: usize = 32;
 
 /// Names that a body, the setup or a script assigns or has as parameters.
-pub const VARIABLES_MAX: usize = 32;
+pub const VARIABLES_MAX: usize = hb_types::env::VARIABLES_MAX;
 
 pub const ARGUMENTS_MAX: usize = 4;
 
