@@ -13,15 +13,9 @@ use Rattle.hb_tree.specs.Tree.{Tree, TNil, TTrue, TFalse, TSelf, TInt, TText, TV
 use Rattle.hb_deriv.specs.declared.ill.Ill.{Ill}
 use Rattle.hb_deriv.specs.declared.ill.Reason.TheVariants as reason
 use Rattle.hb_deriv.specs.Judge.{Types, Typed, Verdict, ◌>>=◌, ill_at, fault, variable_type, operand_limit, all_below, called, call_type, judge, judge_items, judge_args, Subject, variables_of, has_count, ended, judge_body}
-<<<<<<< HEAD
-use Rattle.hb_deriv.specs.Judgement.{Judged, JudgedArgs}
-use Rattle.hb_deriv.specs.Faults.{IsNoClass, Fails, FailsVar, FailsAssign, FailsPrint, FailsToStr, FailsNot, FailsLeft, FailsRight, FailsOperand, FailsTest, FailsFirst, FailsSecond, FailsCondition, FailsTurn, FailsLoop, FailsReceiver, FailsArgs, FailsNoClass, FailsNoType, FailsCount, FailsArgument, FailsDefName, FailsDefText, FailsDeclareName, FailsDeclareText, FailsBlock, ItemsFail, FailsItem, FailsLaterItem, ArgsFail, FailsArg, FailsLaterArg, BodyFails, BodyCount, BodyPart, BodyResult}
-use Rattle.hb_deriv.proofs.JudgementLemmas.{judge_of, args_of, judged_of, judged_args}
-=======
 use Rattle.hb_deriv.specs.Judgement.{Judged, JudgedArgs, IsJudged}
 use Rattle.hb_deriv.specs.Faults.{IsNoClass, Fails, FailsVar, FailsAssign, FailsPrint, FailsToStr, FailsNot, FailsLeft, FailsRight, FailsOperand, FailsTest, FailsFirst, FailsSecond, FailsCondition, FailsTurn, FailsLoop, FailsReceiver, FailsArgs, FailsNoClass, FailsNoType, FailsCount, FailsArgument, FailsDefName, FailsDefText, FailsDeclareName, FailsDeclareText, FailsBlock, ItemsFail, FailsItem, FailsLaterItem, ArgsFail, FailsArg, FailsLaterArg, BodyFails, BodyCount, BodyPart, BodyResult}
 use Rattle.hb_deriv.proofs.JudgementLemmas.{judge_of, args_of, judged_of, judged_args, body_judged, judge_body_of}
->>>>>>> c5039befea06cb1808e96aec7c65a780e80240fb
 
 other : (a b : ℕ) → (a ≡ b → ⊥) → nat_eq a b ≡ false
 other a b h = ⊎_elim (λ p. absurd (h p.1)) (λ p. p.0) (eqb_tells a b)
@@ -197,8 +191,6 @@ body_fails_from types s f h = go (has_count s) refl h
         (λ p. let g = guard_err (is_below p.0.1 s.declared.result) p.0 (ill_at (id_of s.block) reason.Result) f p.2 in
         subst (λ (x : Ill). BodyFails types s x) g.1 (BodyResult n (judged_of types s.self s.block (variables_of s) p.0 p.1) g.0))
         (bind_err (judge types s.self s.block (variables_of s)) (ended s) f h)
-<<<<<<< HEAD
-=======
 
 -- exactly one of the two
 pub one_verdict : (types : Types) (s : Subject) → IsJudged types s ⊎ ((f : Ill) × BodyFails types s f)
@@ -213,4 +205,3 @@ never_both types s f j h = let good = judge_body_of types s j in let bad = body_
 
 pub one_fault : (types : Types) (s : Subject) (f g : Ill) → BodyFails types s f → BodyFails types s g → f ≡ g
 one_fault types s f g h k = let first = body_fails_of types s f h in let second = body_fails_of types s g k in cc
->>>>>>> c5039befea06cb1808e96aec7c65a780e80240fb

@@ -6,21 +6,12 @@ use Rattle.hb_types.specs.declared.types.Ty.{Ty}
 use Rattle.hb_types.specs.declared.types.Ty.TheVariants as ty
 use Rattle.hb_types.specs.declared.ids.ClassId.{ClassId}
 use Rattle.hb_types.specs.declared.types.MethodTy.{MethodTy}
-<<<<<<< HEAD
-use Rattle.hb_types.specs.Types.{is_below, params_of}
-use Rattle.hb_types.specs.Variables.{Variables, get, keeps}
-use Rattle.hb_tree.specs.Tree.{Tree, TNil, TTrue, TFalse, TSelf, TInt, TText, TVar, TNew, TAssign, TPrint, TToStr, TNot, TBinary, TIf, TWhile, TCall, TDef, TDefComputed, TDeclare, TDeclareComputed, TBlock, Forest, NoTree, Trees, id_of}
-use Rattle.hb_deriv.specs.declared.ill.Ill.{Ill}
-use Rattle.hb_deriv.specs.declared.ill.Reason.TheVariants as reason
-use Rattle.hb_deriv.specs.Judge.{Types, Typed, Verdict, ◌>>=◌, ill_at, fault, variable_type, operand_limit, all_below, called, call_type, judge, judge_items, judge_args, Subject, variables_of, has_count, ended, judge_body}
-=======
 use Rattle.hb_types.specs.Types.{is_below, join_of, params_of}
 use Rattle.hb_types.specs.Variables.{Variables, get, join, keeps}
 use Rattle.hb_tree.specs.Tree.{Tree, TNil, TTrue, TFalse, TSelf, TInt, TText, TVar, TNew, TAssign, TPrint, TToStr, TNot, TBinary, TIf, TWhile, TCall, TDef, TDefComputed, TDeclare, TDeclareComputed, TBlock, Forest, NoTree, Trees, id_of}
 use Rattle.hb_deriv.specs.declared.ill.Ill.{Ill}
 use Rattle.hb_deriv.specs.declared.ill.Reason.TheVariants as reason
 use Rattle.hb_deriv.specs.Judge.{Types, Typed, Verdict, ◌>>=◌, ill_at, fault, variable_type, operand_limit, operator_type, all_below, called, call_type, judge, judge_items, judge_args, Subject, variables_of, has_count, ended, judge_body}
->>>>>>> c5039befea06cb1808e96aec7c65a780e80240fb
 use Rattle.hb_deriv.specs.Judgement.{Judged, JudgedItems, JudgedArgs, JudgedNil, JudgedTrue, JudgedFalse, JudgedSelf, JudgedInt, JudgedText, JudgedVar, JudgedNew, JudgedAssign, JudgedPrint, JudgedToStr, JudgedNot, JudgedBinary, JudgedIf, JudgedWhile, JudgedCall, JudgedDef, JudgedDefComputed, JudgedDeclare, JudgedDeclareComputed, JudgedBlock, JudgedNoItem, JudgedItem, JudgedNoArg, JudgedArg, IsJudged}
 
 -- complete: what the relation has is computed
@@ -128,40 +119,24 @@ mutual
       let r = bind_ok (judge types self b l.0.0) _ y l.2 in
       let g = guard_ok (is_below l.0.1 (operand_limit o) && is_below r.0.1 (operand_limit o)) _ y _ r.2 in
       let p = and_both _ _ g.0 in
-<<<<<<< HEAD
-      as_said types self G (TBinary id o a b) _ y g.1 (JudgedBinary (judged_of types self a G l.0 l.1) (judged_of types self b l.0.0 r.0 r.1) p.0 p.1)
-=======
       as_said types self G (TBinary id o a b) (r.0.0, operator_type o) y g.1 (JudgedBinary (judged_of types self a G l.0 l.1) (judged_of types self b l.0.0 r.0 r.1) p.0 p.1)
->>>>>>> c5039befea06cb1808e96aec7c65a780e80240fb
   judged_of types self (TIf id c a b) G y h =
       let t = bind_ok (judge types self c G) _ y h in
       let l = bind_ok (judge types self a t.0.0) _ y t.2 in
       let r = bind_ok (judge types self b t.0.0) _ y l.2 in
-<<<<<<< HEAD
-      as_said types self G (TIf id c a b) _ y (ok_same _ y r.2) (JudgedIf (judged_of types self c G t.0 t.1) (judged_of types self a t.0.0 l.0 l.1) (judged_of types self b t.0.0 r.0 r.1))
-=======
       as_said types self G (TIf id c a b) (join l.0.0 r.0.0, join_of l.0.1 r.0.1) y (ok_same _ y r.2) (JudgedIf (judged_of types self c G t.0 t.1) (judged_of types self a t.0.0 l.0 l.1) (judged_of types self b t.0.0 r.0 r.1))
->>>>>>> c5039befea06cb1808e96aec7c65a780e80240fb
   judged_of types self (TWhile id c b) G y h =
       let t = bind_ok (judge types self c G) _ y h in
       let r = bind_ok (judge types self b t.0.0) _ y t.2 in
       let g = guard_ok (keeps G r.0.0) _ y _ r.2 in
-<<<<<<< HEAD
-      as_said types self G (TWhile id c b) _ y g.1 (JudgedWhile (judged_of types self c G t.0 t.1) (judged_of types self b t.0.0 r.0 r.1) g.0)
-=======
       as_said types self G (TWhile id c b) (t.0.0, ty.Nil) y g.1 (JudgedWhile (judged_of types self c G t.0 t.1) (judged_of types self b t.0.0 r.0 r.1) g.0)
->>>>>>> c5039befea06cb1808e96aec7c65a780e80240fb
   judged_of types self (TCall id r m args) G y h =
       let p = bind_ok (judge types self r G) _ y h in
       let q = bind_ok (judge_args types self args p.0.0 []) _ y p.2 in
       let k = call_ok types id m q.0.0 p.0.1 q.0.1 y q.2 in
       let s = called_ok id q.0.0 q.0.1 (types (k.0.0, m)) y k.2 in
       let receiver : Judged types self G r p.0.0 (ty.Class k.0) = subst (λ t. Judged types self G r p.0.0 t) k.1 (judged_of types self r G p.0 p.1) in
-<<<<<<< HEAD
-      as_said types self G (TCall id r m args) _ y s.4 (JudgedCall receiver (judged_args types self args p.0.0 [] q.0 q.1) s.1 s.2 s.3)
-=======
       as_said types self G (TCall id r m args) (q.0.0, s.0.result) y s.4 (JudgedCall receiver (judged_args types self args p.0.0 [] q.0 q.1) s.1 s.2 s.3)
->>>>>>> c5039befea06cb1808e96aec7c65a780e80240fb
   judged_of types self (TDef id c m s b) G y h = as_said types self G (TDef id c m s b) _ y (ok_same _ y h) JudgedDef
   judged_of types self (TDefComputed id c e s b) G y h =
       let a = bind_ok (judge types self e G) _ y h in

@@ -99,6 +99,7 @@ impl Env {
     /// A variable gets a type. It fails exactly where the variable is new and there is no room, and nothing changed then.
     pub fn set(&mut self, name: NameId, ty: Ty) -> Result<(), EnvFull>
         ensures full { IsErr result ↔ (length self.old ≡ VARIABLES_MAX) × (variables.has self.old name.0 ≡ false) }
+        ensures map { variables.IsMap self.old }
         ensures ok { OnOk result (self.new ≡ variables.set self.old name.0 ty) }
         ensures err { OnErr result (self.new ≡ self.old) }
     {
