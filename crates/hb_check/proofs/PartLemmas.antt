@@ -1,5 +1,6 @@
 -- The last part of an expression, and parts that begin from other variables.
-use Rattle.std.proofs.Common.{◌≡◌, ℕ, suc, ◌+◌, ◌<◌, ◌≤◌, get_or, drop, add-one, drop-cons, drop_of_length-le, List, [], ◌∷◌, ◌++◌, map, length, Bool, true, false, refl, sym, ap, ◌∙◌, subst, append-nil, arith}
+use Rattle.std.proofs.Common.{◌≡◌, ℕ, suc, ◌+◌, ◌<◌, ◌≤◌, get_or, drop, add-one, drop-cons, List, [], ◌∷◌, ◌++◌, map, length, Bool, true, false, refl, sym, ap, ◌∙◌, subst, append-nil, append_assoc, eqb-true, arith}
+use Rattle.std.proofs.Math.ListN.{drop_of_length-le}
 use Rattle.std.specs.Prelude.{Result, Ok, Err, Option, Some, None, nat_eq, if◌then◌else◌, ◌||◌}
 use Rattle.std.specs.Cmp.{nat_eq_equiv}
 use Rattle.std.specs.List.{AllByRecursion, IsDistinct}
@@ -10,21 +11,27 @@ use Rattle.hb_types.specs.declared.ids.NodeId.{NodeId}
 use Rattle.hb_types.specs.declared.types.Ty.{Ty}
 use Rattle.hb_types.specs.declared.types.Ty.TheVariants as ty
 use Rattle.hb_types.specs.declared.types.MethodTy.{MethodTy}
+use Rattle.hb_types.specs.declared.ids.TypeSite.{TypeSite}
+use Rattle.hb_tree.specs.declared.node.Node.TheVariants as node
+use Rattle.hb_tree.specs.declared.node.Method.{Method}
+use Rattle.hb_tree.specs.declared.node.Method.TheVariants as method
+use Rattle.hb_tree.specs.Table.{Table}
 use Rattle.hb_tree.specs.Tree.{Tree, NoTree, Trees}
-use Rattle.hb_tree.specs.TreeAt.{forest_at}
+use Rattle.hb_tree.specs.TreeAt.{forest_at, tree_of, tree_at}
 use Rattle.hb_types.specs.Types.{join_of}
 use Rattle.hb_types.specs.Variables.{Variables, IsMap, get, set, join, joined}
 use Rattle.hb_types.specs.Variables.{has as has_name}
 use Rattle.hb_deriv.specs.declared.ill.Reason.{Reason}
-use Rattle.hb_deriv.specs.Judge.{Types, Typed, Verdict, ◌>>=◌, called, call_type}
-use Rattle.hb_deriv.specs.Events.{Events, behind, done}
+use Rattle.hb_deriv.specs.Judge.{Types, Typed, Verdict, ◌>>=◌, keys_of, declaration_type, called, call_type}
+use Rattle.hb_deriv.specs.Events.{Events, behind, done, look_at}
 use Rattle.hb_deriv.specs.Derivation.{Sites}
 use Rattle.hb_check.specs.declared.notes.Stop.{Stop}
 use Rattle.hb_check.specs.declared.notes.Stop.TheVariants as stop
+use Rattle.hb_check.specs.Checked.{Checks, ChecksMethod}
 use Rattle.hb_check.specs.Looking.{method_of, with_type}
 use Rattle.hb_check.specs.Rules.{concluded}
 use Rattle.hb_check.specs.Runs.{State, names_of, Within, HasRoom, IsSound, Runs}
-use Rattle.hb_check.proofs.RunLemmas.{within_itself, within_left, within_right, within_both, leaves_wider, runs_stop, runs_then, runs_from, runs_wider}
+use Rattle.hb_check.proofs.RunLemmas.{within_itself, within_left, within_right, within_both, leaves_wider, runs_stop, runs_then, runs_from, runs_wider, runs_alike}
 
 -- ── names ──
 
@@ -77,6 +84,36 @@ names_join (v ∷ G) others = go (get others v.0.0) (names_join G others)
     go (Some t) rest = within_both (v.0.0 ∷ []) (names_of (join G others)) (v.0.0 ∷ names_of G)
         (within_left (v.0.0 ∷ []) (names_of G))
         (λ y h. within_right (v.0.0 ∷ []) (names_of G) y (rest y h))
+
+-- a name of both is one of the second
+member_of : (G : Variables) (x : ℕ) (t : Ty) → get G x ≡ Some t → is_member nat_eq (names_of G) x ≡ true
+member_of [] x t h = absurd (cc)
+member_of (v ∷ G) x t h = go (nat_eq v.0.0 x) refl h (member_of G x t)
+  where
+    go : (b : Bool) → nat_eq v.0.0 x ≡ b → (if b then Some v.1 else get G x) ≡ Some t → (get G x ≡ Some t → is_member nat_eq (names_of G) x ≡ true) → nat_eq x v.0.0 || is_member nat_eq (names_of G) x ≡ true
+    go true e h rest = rw (nat_eq_equiv.symm x v.0.0 ∙ e) refl
+    go false e h rest = rw (nat_eq_equiv.symm x v.0.0 ∙ e) (rest h)
+
+none_in : (names : List ℕ) → Within [] names
+none_in names x h = absurd (cc)
+
+pub names_join_other : (G others : Variables) → Within (names_of (join G others)) (names_of others)
+names_join_other [] others = none_in (names_of others)
+names_join_other (v ∷ G) others = go (get others v.0.0) refl (names_join_other G others)
+  where
+    go : (o : Option Ty) → get others v.0.0 ≡ o → Within (names_of (join G others)) (names_of others) → Within (names_of (joined v o (join G others))) (names_of others)
+    go None e rest = rest
+    go (Some t) e rest = within_both (v.0.0 ∷ []) (names_of (join G others)) (names_of others) (only v.0.0 (names_of others) (member_of others v.0.0 t e)) rest
+      where
+        only : (x : ℕ) (names : List ℕ) → is_member nat_eq names x ≡ true → Within (x ∷ []) names
+        only x names h y k = subst (λ z. is_member nat_eq names z ≡ true) (sym (eqb-true y x (alone y x k))) h
+          where
+            alone : (y x : ℕ) → nat_eq y x || false ≡ true → nat_eq y x ≡ true
+            alone y x k = go2 (nat_eq y x) k
+              where
+                go2 : (b : Bool) → b || false ≡ true → b ≡ true
+                go2 true k = refl
+                go2 false k = absurd (cc)
 
 -- ── parts ──
 
@@ -176,3 +213,37 @@ call_events types id m G (ty.Class c) args = go (types (c.0, m))
     go : (o : Option MethodTy) → done id (called id G args o) ≡ behind (with_type id G o) (λ r. done id (called id r.0 args (Some r.1)))
     go None = refl
     go (Some s) = refl
+
+pub within_turned : (x : ℕ) (names : List ℕ) → Within (names ++ x ∷ []) (x ∷ names)
+within_turned x names = within_both names (x ∷ []) (x ∷ names) (within_right (x ∷ []) names) (within_left (x ∷ []) names)
+
+-- what follows an assignment begins from the names with this one
+pub within_set : (G : Variables) (x : ℕ) (t : Ty) → Within (names_of (set G x t) ++ []) (names_of G ++ x ∷ [])
+within_set G x t y h = names_set G x t y (subst (λ names. is_member nat_eq names y ≡ true) (append-nil (names_of (set G x t))) h)
+
+-- what is joined, or begins a branch, has names that were there or assigned
+pub within_joined : (G others H : Variables) (A : List ℕ) → Within (names_of G) (names_of H ++ A) → Within (names_of (join G others)) (names_of H ++ A)
+within_joined G others H A w y h = w y (names_join G others y h)
+
+-- three lists of names
+pub runs_grouped : {X : Type 0} {sites : Sites} {v : Types → Verdict (Variables × X)} {es : Types → Events} (A B C : List ℕ) {G : Variables} {old new : State} {result : Result (Variables × X) Stop}
+    → Runs sites v es (A ++ (B ++ C)) G old new result → Runs sites v es ((A ++ B) ++ C) G old new result
+runs_grouped {sites = sites} {v} {es} A B C {G} {old} {new} {result} a = subst (λ names. Runs sites v es names G old new result) (sym (append_assoc A B C)) a
+
+-- a call's last part, as the method that is looked for and its rule
+pub call_parts : {sites : Sites} {A : List ℕ} {H : Variables} {old new : State} {result : Result Typed Stop} (id m : ℕ) (G : Variables) (t : Ty) (args : List Ty)
+    → Runs sites (λ types. method_of types id m G t >>= (λ r. called id r.0 args (Some r.1))) (λ types. look_at id (keys_of t m) ++ behind (method_of types id m G t) (λ r. done id (called id r.0 args (Some r.1)))) A H old new result
+    → Runs sites (λ types. call_type types id m G t args) (λ types. look_at id (keys_of t m) ++ done id (call_type types id m G t args)) A H old new result
+call_parts id m G t args a = runs_alike
+    (λ types. method_of types id m G t >>= (λ r. called id r.0 args (Some r.1))) (λ types. call_type types id m G t args)
+    (λ types. look_at id (keys_of t m) ++ behind (method_of types id m G t) (λ r. done id (called id r.0 args (Some r.1)))) (λ types. look_at id (keys_of t m) ++ done id (call_type types id m G t args))
+    (λ types. sym (call_split types id m G t args))
+    (λ types. ap (λ (es : Events). look_at id (keys_of t m) ++ es) (sym (call_events types id m G t args)))
+    a
+
+-- ── definitions and declarations ──
+
+pub checks_declare : (t : Table) (self id : ℕ) (m : Method) (asks : Bool) (s : TypeSite) {G : Variables} {old new : State} {result : Result Typed Stop}
+    → ChecksMethod t self id m (declaration_type asks) G old new result → Checks t self (tree_of t (tree_at t) id (node.Declare m s asks)) G old new result
+checks_declare t self id (method.Named c x) asks s h = h
+checks_declare t self id (method.Computed c e) asks s h = h
