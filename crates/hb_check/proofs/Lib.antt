@@ -1,4 +1,6 @@
+mod BodyLemmas
 mod LookLemmas
+mod ParameterLemmas
 mod PartLemmas
 mod RuleLemmas
 mod RunLemmas

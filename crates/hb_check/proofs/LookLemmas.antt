@@ -27,7 +27,7 @@ use Rattle.hb_check.proofs.RunLemmas.{within_left}
 
 -- ── keys ──
 
-key_turned : (j k : Key) → same_key j k ≡ same_key k j
+pub key_turned : (j k : Key) → same_key j k ≡ same_key k j
 key_turned j k = ap₂ ◌&&◌ (nat_eq_equiv.symm j.0 k.0) (nat_eq_equiv.symm j.1 k.1)
 
 keys_more : (answers : List Asked) (a : Asked) → map key_asked (answers ++ a ∷ []) ≡ map key_asked answers ++ key_asked a ∷ []

@@ -13,6 +13,7 @@ use Rattle.hb_deriv.specs.declared.ill.Reason.{Reason}
 use Rattle.hb_deriv.specs.Judge.{Key, Types, Typed, Verdict, ◌>>=◌}
 use Rattle.hb_deriv.specs.Events.{Event, Events, Look, Done, behind, done, has, fresh}
 use Rattle.hb_deriv.specs.Derivation.{Sites, step, steps_of}
+use Rattle.hb_deriv.proofs.LookLemmas.{fresh_both}
 use Rattle.hb_check.specs.declared.notes.Stop.{Stop}
 use Rattle.hb_check.specs.declared.notes.Stop.TheVariants as stop
 use Rattle.hb_check.specs.declared.lookup.LookFail.TheVariants as look
@@ -21,18 +22,6 @@ use Rattle.hb_check.specs.Rules.{concluded}
 use Rattle.hb_check.specs.Runs.{State, keys_asked, keys_in, IsCause, names_of, Within, HasRoom, HasLogged, HasFront, Comes, Leaves, Ran, Runs, IsSound}
 
 -- ── keys and steps ──
-
-pub fresh_both : (seen : List Key) (es fs : Events) → fresh seen (es ++ fs) ≡ fresh seen es ++ fresh (seen ++ fresh seen es) fs
-fresh_both seen [] fs = ap (λ (ks : List Key). fresh ks fs) (sym (append-nil seen))
-fresh_both seen (Done id t ∷ es) fs = fresh_both seen es fs
-fresh_both seen (Look id k ∷ es) fs = go (has k seen) (λ ks. fresh_both ks es fs)
-  where
-    go : (b : Bool) → ((ks : List Key) → fresh ks (es ++ fs) ≡ fresh ks es ++ fresh (ks ++ fresh ks es) fs) → (if b then fresh seen (es ++ fs) else k ∷ fresh (seen ++ k ∷ []) (es ++ fs)) ≡ (if b then fresh seen es else k ∷ fresh (seen ++ k ∷ []) es) ++ fresh (seen ++ (if b then fresh seen es else k ∷ fresh (seen ++ k ∷ []) es)) fs
-    go true rest = rest seen
-    go false rest =
-        let new : List Key = fresh (seen ++ k ∷ []) es in
-        ap (λ (ks : List Key). k ∷ ks) (rest (seen ++ k ∷ []))
-        ∙ ap (λ (ks : List Key). k ∷ (new ++ fresh ks fs)) (append_assoc seen (k ∷ []) new)
 
 pub steps_both : (es fs : Events) → steps_of (es ++ fs) ≡ steps_of es ++ steps_of fs
 steps_both [] fs = refl
