@@ -1,0 +1,6 @@
+mod BodyLemmas
+mod LookLemmas
+mod ParameterLemmas
+mod PartLemmas
+mod RuleLemmas
+mod RunLemmas
