@@ -1,0 +1,19 @@
+-- What a table of declarations answered and refused.
+use Rattle.std.specs.Prelude.{List, map, Option, Some, None}
+use Rattle.hb_check.specs.declared.lookup.LookFail.TheVariants as look
+use Rattle.hb_check.specs.Asked.{Asked, Refusal, asked, refusal}
+use Rattle.hb_types.specs.declared.ids.ClassId.{ClassId}
+use Rattle.hb_types.specs.declared.ids.NameId.{NameId}
+use Rattle.hb_trials.specs.declared.declarations.Answer.{Answer}
+use Rattle.hb_trials.specs.declared.declarations.Declarations.{Declarations}
+
+abbrev pub answers_in : Declarations → List Asked
+answers_in t = map (λ a. asked a.class a.name a.site) t.answers.items
+
+-- memory alone makes it refuse
+abbrev pub refusal_from : Option (ClassId × NameId) → Option Refusal
+refusal_from None = None
+refusal_from (Some k) = Some (refusal k.0 k.1 look.NoMemory)
+
+abbrev pub refusal_in : Declarations → Option Refusal
+refusal_in t = refusal_from t.refused

@@ -1,0 +1,98 @@
+//! A lookup that answers from the declarations of a program.
+
+ghost use Rattle.std.specs.Prelude.{◌≡◌, [], None, IfOk};
+ghost use Rattle.hb_trials.specs.Declarations.{answers_in, refusal_in};
+
+use hb_check::lookup::{LookFail, Lookup};
+use hb_tree::node::{Method, Node};
+use hb_tree::program::Program;
+use hb_types::ids::{ClassId, NameId, TypeSite};
+use std::alloc::{AllocError, Global};
+
+/// A method and the site at which its type is declared.
+#[derive(Clone, Copy, Debug, PartialEq, Eq)]
+pub struct Declared {
+    pub class: ClassId,
+    pub name: NameId,
+    pub site: TypeSite,
+}
+
+/// A question, and the answer to it.
+#[derive(Clone, Copy, Debug, PartialEq, Eq)]
+pub struct Answer {
+    pub class: ClassId,
+    pub name: NameId,
+    pub site: Option<TypeSite>,
+}
+
+/// A lookup over declarations, of which the last one of a method counts. It remembers what was asked.
+#[derive(Debug, Drop)]
+pub struct Declarations {
+    declared: Vec<Declared>,
+    answers: Vec<Answer>,
+    refused: Option<(ClassId, NameId)>,
+}
+
+impl Declarations {
+    /// The table of the first declarations of a program, without those whose name is computed.
+    pub fn of(alloc: Global, prog: &Program, count: usize) -> Result<Declarations, AllocError>
+        ensures { IfOk result (λ t. (answers_in t ≡ []) × (refusal_in t ≡ None)) }
+    {
+        let mut declared = Vec::new(alloc);
+        for i in 0..count.min(prog.types()) {
+            let site = TypeSite(i as u16);
+            if let Node::Declare(Method::Named(class, name), _, _) = prog.node(prog.type_node(site)) {
+                declared.push(Declared { class, name, site })?;
+            }
+        }
+        Ok(Declarations {
+            declared,
+            answers: Vec::new(alloc),
+            refused: None,
+        })
+    }
+
+    /// What was asked, in order.
+    pub fn answers(&self) -> &[Answer] {
+        &self.answers
+    }
+}
+
+impl Lookup for Declarations {
+    ghost use Rattle.std.proofs.Common.{◌≡◌, ◌∙◌, refl};
+    ghost use Rattle.hb_trials.specs.Declarations.{answers_in, refusal_in};
+
+    ghost answers = { λ t. answers_in t };
+
+    ghost refused = { λ t. refusal_in t };
+
+    ghost bound = { λ t. 65536 };
+
+    ghost alike = { λ a b. a.declared.items ≡ b.declared.items };
+
+    ghost alike_itself = { λ a. refl };
+
+    ghost alike_on = { λ a b c e f. e ∙ f };
+
+    ghost bound_stays = { λ a b e. refl };
+
+    fn type_of(
+        &mut self,
+        alloc: Global,
+        class: ClassId,
+        name: NameId,
+    ) -> Result<Option<TypeSite>, LookFail> {
+        let _ = alloc;
+        let mut site = None;
+        for declared in &self.declared {
+            if declared.class == class && declared.name == name {
+                site = Some(declared.site);
+            }
+        }
+        if self.answers.push(Answer { class, name, site }).is_err() {
+            self.refused = Some((class, name));
+            return Err(LookFail::NoMemory);
+        }
+        Ok(site)
+    }
+}
