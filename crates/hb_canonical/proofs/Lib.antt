@@ -18,3 +18,5 @@ pub mod RootLemmas
 pub mod SourceLemmas
 pub mod DepthLemmas
 pub mod PerformLemmas
+pub mod SeenLemmas
+pub mod LookLemmas
