@@ -20,3 +20,4 @@ pub mod DepthLemmas
 pub mod PerformLemmas
 pub mod SeenLemmas
 pub mod LookLemmas
+pub mod SimulationLemmas
