@@ -21,3 +21,4 @@ pub mod PerformLemmas
 pub mod SeenLemmas
 pub mod LookLemmas
 pub mod SimulationLemmas
+pub mod CalmLemmas

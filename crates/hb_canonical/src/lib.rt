@@ -2,7 +2,9 @@
 #![tactic(auto)]
 
 mod canonical;
+mod simulation;
 mod source;
 
 pub use canonical::canonical_tokens;
+pub use simulation::{deeds_calm, simulated};
 pub use source::{deeds_build, source_depth, source_words};
