@@ -22,3 +22,4 @@ pub mod SeenLemmas
 pub mod LookLemmas
 pub mod SimulationLemmas
 pub mod CalmLemmas
+pub mod AgainLemmas
