@@ -15,18 +15,14 @@ use Rattle.hb_canonical.specs.Perform.{perform, spots_in}
 use Rattle.hb_canonical.specs.Same.{IsSameButPlaces}
 use Rattle.hb_canonical.proofs.CalmLemmas.{deeds-calm}
 use Rattle.hb_canonical.proofs.PerformLemmas.{deeds-build}
+use Rattle.hb_canonical.proofs.ProgramTextLemmas.{canonical_deeds}
 use Rattle.hb_canonical.proofs.SimulationLemmas.{simulated}
 use Rattle.hb_canonical.proofs.SourceLemmas.{source-depth, source-words}
 
--- the canonical text of a program does what its deeds say
-abbrev pub HasCanonicalDeeds : Type 0
-HasCanonicalDeeds = (t : Table) → IsProgram t → (tokens : List Token) → HasTokens (canon t) tokens
-    → (done : List Act) × HasActions (kinds_of tokens) done × (deeds_in (canon t) tokens done ≡ deeds_of (said_in t))
-
-pub reads-back : HasCanonicalDeeds → (text : List ℕ) (tokens : List Token) (t : Table) → HasTokens text tokens → IsProgram t → Says text tokens (said_in t)
+pub reads-back : (text : List ℕ) (tokens : List Token) (t : Table) → HasTokens text tokens → IsProgram t → Says text tokens (said_in t)
     → (others : List Token) → HasTokens (canon t) others → (again : Said) × Says (canon t) others again × IsSameButPlaces (said_in t) again
-reads-back canonical text tokens t lexed ok says others relexed =
-    let c = canonical t ok others relexed in
+reads-back text tokens t lexed ok says others relexed =
+    let c = canonical_deeds t ok others relexed in
     let ds : List Deed = deeds_in text tokens says.done in
     let es : List Deed = deeds_of (said_in t) in
     let built : perform (spots_in text tokens says.done) ds nothing ≡ Goes says.work = sym (deeds-build text tokens says.done nothing lexed says.actions) ∙ says.built in

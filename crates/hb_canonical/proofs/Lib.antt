@@ -4,6 +4,7 @@ pub mod LooseLemmas
 pub mod LeafLemmas
 pub mod PieceLemmas
 pub mod CanonicalLemmas
+pub mod SentenceLemmas
 pub mod DeriveLemmas
 pub mod ProgramTextLemmas
 pub mod PlainLemmas
