@@ -6,9 +6,8 @@ use Rattle.hb_tree.specs.declared.limits.TheConstants.{CONSTRUCTS_MAX}
 use Rattle.hb_tree.specs.Canon.{canon}
 use Rattle.hb_tree.specs.Program.{IsProgram}
 use Rattle.hb_tree.specs.Table.{Table}
-use Rattle.hb_grammar.specs.Language.{Act, HasActions, kinds_of}
 use Rattle.hb_build.specs.Said.{Said, said_in}
-use Rattle.hb_build.specs.Acts.{Goes, Work, nothing}
+use Rattle.hb_build.specs.Acts.{Goes, nothing}
 use Rattle.hb_parse.specs.Text.{Says}
 use Rattle.hb_canonical.specs.Deeds.{Deed, bare, deepest, deeds_in, deeds_of}
 use Rattle.hb_canonical.specs.Perform.{perform, spots_in}

@@ -21,7 +21,6 @@ use Rattle.hb_tree.specs.TreeAt.{forest_at, tree_at, tree_of, tree_of_place, tre
 use Rattle.hb_tree.specs.Program.{IsProgram, IsExprNode}
 use Rattle.hb_tree.specs.Canon.{bytes_at, quoted, level, least_left, least_right}
 use Rattle.hb_draft.specs.Made.{Given}
-use Rattle.hb_draft.specs.Unfinished.{setup_in, scripts_in}
 use Rattle.hb_grammar.specs.declared.actions.Action.{Action}
 use Rattle.hb_grammar.specs.declared.actions.Action.TheVariants as a
 use Rattle.hb_build.specs.Said.{Said, said_in}

@@ -1,6 +1,6 @@
 -- Each action does the same whatever the places and spots: one lemma for each.
 use Rattle.std.proofs.Common.{◌≡◌, ℕ, pos, ◌+◌, ◌-◌, List, [], ◌∷◌, ◌++◌, length, Bool, false, Some, refl, sym, ◌∙◌, ap}
-use Rattle.std.specs.Prelude.{bytes_eq, nat_eq, nat_le}
+use Rattle.std.specs.Prelude.{nat_eq, nat_le}
 use Rattle.std.specs.List.{list_any}
 use Rattle.std.proofs.lemmas.List.{length-map}
 use Rattle.hb_lex.specs.Literal.{value_of_number, value_of_text}
@@ -8,7 +8,7 @@ use Rattle.hb_types.specs.declared.types.Ty.{Ty}
 use Rattle.hb_types.specs.declared.types.Ty.TheVariants as ty
 use Rattle.hb_types.specs.declared.types.MethodTy.{MethodTy}
 use Rattle.hb_types.specs.declared.types.TheConstants.{PARAMS_MAX}
-use Rattle.hb_tree.specs.declared.limits.TheConstants.{CLASSES_MAX, SCRIPTS_MAX, TYPES_MAX, CONSTRUCTS_MAX}
+use Rattle.hb_tree.specs.declared.limits.TheConstants.{TYPES_MAX, CONSTRUCTS_MAX}
 use Rattle.hb_tree.specs.Tree.{Tree, TNil, TSelf, TInt, TText, TVar, TNew, TAssign, TPrint, TToStr, TNot, TBinary, TIf, TWhile, TCall, TDef, TDefComputed, TDeclare, TDeclareComputed, TBlock, id_of}
 use Rattle.hb_draft.specs.Words.{with_word}
 use Rattle.hb_draft.specs.Unfinished.{forest_of}
@@ -18,9 +18,8 @@ use Rattle.hb_grammar.specs.declared.actions.Action.TheVariants as a
 use Rattle.hb_build.specs.declared.held.Spot.{Spot}
 use Rattle.hb_build.specs.declared.faults.ParseFail.TheVariants as fail
 use Rattle.hb_build.specs.declared.faults.Limit.TheVariants as limit
-use Rattle.hb_build.specs.Said.{Said}
-use Rattle.hb_build.specs.Pile.{Slot, Operand, Closed, Item, Argument, Own, Declaring, Word, Target, Called, OfClass, Named, Computed, Parameter, OfType, ParameterType, Block, Body, Setup, Script, items_on, below_items, arguments_on, below_arguments, parameters_on, below_parameters, types_on, below_types, is_full, declaring, has_too_many_calls, has_too_many_variables}
-use Rattle.hb_build.specs.Acts.{Work, Answer, Goes, Fails, Lost, act, begins, boolean, class_of, closed, complete, declare, define, fails_if, giving, leaf, method_ty, number, numbered, opened, opens, push, typing, with_block, with_called, with_operand}
+use Rattle.hb_build.specs.Pile.{Slot, Operand, Closed, Item, Argument, Own, Declaring, Word, Target, Called, OfClass, Named, Computed, Parameter, OfType, ParameterType, Block, Body, Setup, Script, items_on, below_items, arguments_on, below_arguments, parameters_on, below_parameters, types_on, below_types, is_full}
+use Rattle.hb_build.specs.Acts.{Work, Answer, Goes, act, begins, boolean, class_of, closed, complete, declare, define, giving, leaf, method_ty, number, numbered, opened, push, typing, with_block, with_called, with_operand}
 use Rattle.hb_canonical.specs.Deeds.{depth_after}
 use Rattle.hb_canonical.proofs.SeenLemmas.{nowhere, no_place, no_spots, unplaced, unplaced-twice, seen, Alike, both, kept, fails, completes, seen-items, seen-below_items, seen-arguments, seen-below_arguments, seen-parameters, seen-below_parameters, seen-types, seen-below_types, seen-full, seen-declaring, seen-many_calls, seen-many_variables}
 use Rattle.hb_canonical.proofs.SeenLemmas as on
@@ -106,16 +105,16 @@ module _ (p : Spot) (bytes : List ℕ) (w : Work) where
   looks-put_def =
       let d : ℕ = w.depth - 1 in
       on.block_closed d w.pile _ (λ b rest. on.body d rest _ (λ rest.
-          both d (defined d (0 - 1) (below_parameters rest) (closed w) refl (parameters_on rest) b)
-          (ap (λ pile. define (parameters_on rest) b pile (closed (seen 0 w))) (sym (seen-below_parameters rest))
-          ∙ ap (λ params. define params b (below_parameters (no_spots rest)) (closed (seen 0 w))) (sym (seen-parameters rest)))))
+      both d (defined d (0 - 1) (below_parameters rest) (closed w) refl (parameters_on rest) b)
+      (ap (λ pile. define (parameters_on rest) b pile (closed (seen 0 w))) (sym (seen-below_parameters rest))
+      ∙ ap (λ params. define params b (below_parameters (no_spots rest)) (closed (seen 0 w))) (sym (seen-parameters rest)))))
 
   looks-put_declare : (asks : Bool) → Looks (a.PutDeclare asks)
   looks-put_declare asks =
       on.of_type w.depth w.pile _ (λ y rest.
-          both w.depth (declared w.depth 0 (below_types rest) w refl (method_ty (types_on rest) y) asks)
-          (ap (λ pile. declare (method_ty (types_on rest) y) asks pile (seen 0 w)) (sym (seen-below_types rest))
-          ∙ ap (λ types. declare (method_ty types y) asks (below_types (no_spots rest)) (seen 0 w)) (sym (seen-types rest))))
+      both w.depth (declared w.depth 0 (below_types rest) w refl (method_ty (types_on rest) y) asks)
+      (ap (λ pile. declare (method_ty (types_on rest) y) asks pile (seen 0 w)) (sym (seen-below_types rest))
+      ∙ ap (λ types. declare (method_ty types y) asks (below_types (no_spots rest)) (seen 0 w)) (sym (seen-types rest))))
 
   looks-hold_parameter : Looks a.HoldParameter
   looks-hold_parameter =
@@ -127,14 +126,14 @@ module _ (p : Spot) (bytes : List ℕ) (w : Work) where
   looks-add_parameter_type : Looks a.AddParameterType
   looks-add_parameter_type =
       on.of_type w.depth w.pile _ (λ y rest.
-          fails w.depth _ _ (fail.TooMany limit.Parameters p.at) (fail.TooMany limit.Parameters 0) (ap (λ (l : List Ty). nat_le PARAMS_MAX (length l)) (sym (seen-types rest)))
-          (laid w.depth refl (ParameterType y ∷ rest)))
+      fails w.depth _ _ (fail.TooMany limit.Parameters p.at) (fail.TooMany limit.Parameters 0) (ap (λ (l : List Ty). nat_le PARAMS_MAX (length l)) (sym (seen-types rest)))
+      (laid w.depth refl (ParameterType y ∷ rest)))
 
   looks-add_argument : Looks a.AddArgument
   looks-add_argument =
       on.operand w.depth w.pile _ (λ e rest.
-          fails w.depth _ _ (fail.TooMany limit.Arguments p.at) (fail.TooMany limit.Arguments 0) (sym (seen-full rest))
-          (laid w.depth refl (Argument e ∷ rest)))
+      fails w.depth _ _ (fail.TooMany limit.Arguments p.at) (fail.TooMany limit.Arguments 0) (sym (seen-full rest))
+      (laid w.depth refl (Argument e ∷ rest)))
 
   -- ── constructs that open ──
 
@@ -153,9 +152,9 @@ module _ (p : Spot) (bytes : List ℕ) (w : Work) where
   looks-open_assign : nat_le CONSTRUCTS_MAX w.depth ≡ false → Looks a.OpenAssign
   looks-open_assign room =
       on.named (w.depth + 1) w.pile _ (λ x q rest.
-          fails (w.depth + 1) _ false (fail.TooDeep p.at) (fail.TooDeep 0) room
-          (fails (w.depth + 1) _ _ (fail.TooMany limit.Variables p.at) (fail.TooMany limit.Variables 0) (sym (seen-many_variables (Target x p ∷ rest)))
-          (kept (w.depth + 1) (opened (record w { pile = Target x p ∷ rest })) (0 + 1) refl)))
+      fails (w.depth + 1) _ false (fail.TooDeep p.at) (fail.TooDeep 0) room
+      (fails (w.depth + 1) _ _ (fail.TooMany limit.Variables p.at) (fail.TooMany limit.Variables 0) (sym (seen-many_variables (Target x p ∷ rest)))
+      (kept (w.depth + 1) (opened (record w { pile = Target x p ∷ rest })) (0 + 1) refl)))
 
   -- ── the others ──
 
@@ -182,8 +181,8 @@ module _ (p : Spot) (bytes : List ℕ) (w : Work) where
       (fails w.depth _ _ (fail.TooMany limit.Scripts p.at) (fail.TooMany limit.Scripts 0) refl (named w.depth refl (Script (number bytes w))))
   looks a.EndScript room =
       on.block_closed w.depth w.pile _ (λ b rest. on.script w.depth rest _ (λ x rest.
-          fails w.depth _ _ (fail.TooMany limit.Scripts p.at) (fail.TooMany limit.Scripts 0) refl
-          (kept w.depth (record w { said = record w.said { scripts = w.said.scripts ++ (x, b) ∷ [] }; pile = rest }) 0 refl)))
+      fails w.depth _ _ (fail.TooMany limit.Scripts p.at) (fail.TooMany limit.Scripts 0) refl
+      (kept w.depth (record w { said = record w.said { scripts = w.said.scripts ++ (x, b) ∷ [] }; pile = rest }) 0 refl)))
   looks a.BeginBlock room = pushed w.depth refl Block
   looks a.EndBlock room = looks-end_block
   looks a.AddItem room = on.operand w.depth w.pile _ (λ e rest. laid w.depth refl (Item e ∷ rest))
@@ -222,7 +221,7 @@ module _ (p : Spot) (bytes : List ℕ) (w : Work) where
   looks a.PutNot room = on.operand (w.depth - 1) w.pile _ (λ e rest. on.own (w.depth - 1) rest _ (λ q rest. shut q (λ id. TNot id e) rest))
   looks (a.PutBinary op) room =
       on.operand w.depth w.pile _ (λ r rest. on.own w.depth rest _ (λ q rest. on.operand w.depth rest _ (λ l rest.
-          node w.depth refl q (λ id. TBinary id op l r) Operand rest (λ e. refl))))
+      node w.depth refl q (λ id. TBinary id op l r) Operand rest (λ e. refl))))
   looks a.PutIf room =
       let d : ℕ = w.depth - 1 in
       on.block_closed d w.pile _ (λ r rest. on.block_closed d rest _ (λ l rest. on.operand d rest _ (λ c rest. on.own d rest _ (λ q rest. shut q (λ id. TIf id c l r) rest))))

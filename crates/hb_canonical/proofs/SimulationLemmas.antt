@@ -1,26 +1,26 @@
 -- Deeds that differ in parentheses alone build the same, where the second ones are calm and not too deep.
-use Rattle.std.proofs.Common.{◌≡◌, ℕ, suc, ◌+◌, ◌-◌, ◌≤◌, List, [], ◌∷◌, length, Bool, true, false, Option, Some, None, refl, sym, ◌∙◌, ap, subst, inl, inr, arith, max}
+use Rattle.std.proofs.Common.{◌≡◌, ℕ, suc, ◌+◌, ◌≤◌, List, [], ◌∷◌, length, Bool, true, false, Option, Some, None, refl, sym, ◌∙◌, ap, subst, inl, inr, arith}
 use Rattle.std.specs.Prelude.{nat_le, if◌then◌else◌, ◌||◌, ◌&&◌}
-use Rattle.std.proofs.lemmas.Bool.{cases_Bool, both_ways, or_cases, and_parts}
+use Rattle.std.proofs.lemmas.Bool.{cases_Bool, or_cases, and_parts}
 use Rattle.std.proofs.lemmas.Bool.Decides.{nat_tests}
 use Rattle.std.proofs.lemmas.List.{length-map}
-use Rattle.hb_tree.specs.declared.limits.TheConstants.{CONSTRUCTS_MAX, ARGUMENTS_MAX}
+use Rattle.hb_tree.specs.declared.limits.TheConstants.{CONSTRUCTS_MAX}
 use Rattle.hb_tree.specs.Tree.{Tree}
 use Rattle.hb_grammar.specs.declared.actions.Action.{Action}
 use Rattle.hb_grammar.specs.declared.actions.Action.TheVariants as a
 use Rattle.hb_build.specs.declared.held.Spot.{Spot}
 use Rattle.hb_build.specs.declared.faults.ParseFail.TheVariants as fail
 use Rattle.hb_build.specs.declared.faults.Limit.TheVariants as limit
-use Rattle.hb_build.specs.Pile.{Slot, Word, OfClass, Operand, Own, Called, arguments_on, is_full}
-use Rattle.hb_build.specs.Acts.{Work, Answer, Goes, Fails, Lost, act, begins as one_begins, class_of, fails_if, nothing, opened, closed, opens, with_known, with_name, with_class, with_operand}
+use Rattle.hb_build.specs.Pile.{Slot, Word, OfClass, Operand, is_full}
+use Rattle.hb_build.specs.Acts.{Work, Answer, Goes, Fails, Lost, act, class_of, nothing, opened, closed, with_known, with_name, with_class, with_operand}
 use Rattle.hb_build.specs.Follow.{and_then}
-use Rattle.hb_canonical.specs.Deeds.{Deed, plain, bare, is_parenthesis, deepest, depth_after}
+use Rattle.hb_canonical.specs.Deeds.{Deed, bare, is_parenthesis, deepest, depth_after}
 use Rattle.hb_canonical.specs.Calm.{IsCalm, IsCalmBehind, begins, begins_one, is_open, is_other}
 use Rattle.hb_canonical.specs.Perform.{perform}
 use Rattle.hb_canonical.specs.Same.{IsSameButPlaces}
 use Rattle.hb_canonical.proofs.EffectLemmas.{goes-same, goes-passed}
 use Rattle.hb_canonical.proofs.SourceLemmas.{then-goes}
-use Rattle.hb_canonical.proofs.SeenLemmas.{nowhere, no_place, no_spots, unplaced, seen, seen-twice, seen-full, to_seen, to_depth, Alike}
+use Rattle.hb_canonical.proofs.SeenLemmas.{nowhere, no_place, seen, seen-full, to_seen, to_depth}
 use Rattle.hb_canonical.proofs.LookLemmas.{HasRoom, looks}
 
 -- ── what is known of a work where an action went on ──
@@ -92,6 +92,9 @@ LookSame w v = seen 0 w ≡ seen 0 v
 look-again : (d e : ℕ) (w v : Work) → seen d w ≡ seen e v → LookSame w v
 look-again d e w v h = ap (λ (x : Work). record x { depth = 0 }) h
 
+depth-again : (d e : ℕ) (w v : Work) → seen d w ≡ seen e v → d ≡ e
+depth-again d e w v h = ap (λ (x : Work). x.depth) h
+
 full-same : (w v : Work) → LookSame w v → is_full w.pile ≡ is_full v.pile
 full-same w v h = sym (seen-full w.pile) ∙ ap (λ (x : Work). is_full x.pile) h ∙ seen-full v.pile
 
@@ -114,17 +117,18 @@ pub record Copied (action : Action) (q : Spot) (bytes : List ℕ) (v w : Work) :
 
 pub copied : (action : Action) (p q : Spot) (bytes : List ℕ) (u v w : Work) → act action p bytes u ≡ Goes v → LookSame u w → HasRoom action w.depth → Copied action q bytes v w
 copied action p q bytes u v w h same room =
-    let one = looks p bytes u action (had-room action p bytes u v h) in
-    let bare = depth-goes (depth_after action u.depth) (act action nowhere bytes (seen 0 u)) (seen v.depth v) (sym one.same ∙ ap to_seen h) in
-    let two = looks q bytes w action room in
     let d : ℕ = depth_after action w.depth in
-    let there : act action nowhere bytes (seen 0 w) ≡ Goes bare.0 = ap (λ (x : Work). act action nowhere bytes x) (sym same) ∙ bare.1 in
-    let far = seen-goes (act action q bytes w) (seen d bare.0) (two.same ∙ ap (to_depth d) there) in
+    let e : ℕ = depth_after action u.depth in
+    let one = looks p bytes u action (had-room action p bytes u v h) in
+    let shown = depth-goes e (act action nowhere bytes (seen 0 u)) (seen v.depth v) (sym one.same ∙ ap to_seen h) in
+    let two = looks q bytes w action room in
+    let there : act action nowhere bytes (seen 0 w) ≡ Goes shown.0 = ap (λ (x : Work). act action nowhere bytes x) (sym same) ∙ shown.1 in
+    let far = seen-goes (act action q bytes w) (seen d shown.0) (two.same ∙ ap (to_depth d) there) in
     record {
       after = far.0;
       goes = far.1;
-      same = sym (look-again (depth_after action u.depth) v.depth bare.0 v bare.2) ∙ sym (look-again far.0.depth d far.0 bare.0 far.2);
-      depth_is = ap (λ (x : Work). x.depth) far.2;
+      same = sym (look-again e v.depth shown.0 v shown.2) ∙ sym (look-again far.0.depth d far.0 shown.0 far.2);
+      depth_is = depth-again far.0.depth d far.0 shown.0 far.2;
     }
 
 -- ── lists of deeds ──
@@ -138,7 +142,7 @@ parenthesis a.Open p bytes w v e h = ap (seen 0) (goes-same (goes-passed (is_ful
 parenthesis a.Close p bytes w v e h = ap (seen 0) (goes-same h)
 parenthesis _ p bytes w v e h = absurd (not-true e)
 
--- The deeds up to the first that is no parenthesis, which is this one.
+-- the first deed that is no parenthesis, which is this one, and what comes behind it
 record Reaches (d : Deed) (rest : List Deed) (w v : Work) : Type 0 where
   before : Work
   same : LookSame w before
@@ -250,7 +254,7 @@ goes-on : (action : Action) (p : Spot) (bytes : List ℕ) (w : Work) → is_pare
 goes-on a.Open p bytes w e full deep = (
   opened w,
   ap (λ b. if b then Fails (fail.TooDeep p.at) else (if is_full w.pile then Fails (fail.TooMany limit.Arguments p.at) else Goes (opened w))) (room w.depth deep)
-  ∙ ap (λ b. if b then Fails (fail.TooMany limit.Arguments p.at) else Goes (opened w)) (full refl),
+      ∙ ap (λ b. if b then Fails (fail.TooMany limit.Arguments p.at) else Goes (opened w)) (full refl),
   refl,
   refl,
 )
@@ -276,20 +280,20 @@ module _ (v : Work) where
         | inl is ↦
             let alike : bare ds ≡ bare xs = e ∙ bare-one x xs is in
             let free : is_open x.action ≡ true → is_full w.pile ≡ false = λ o.
-                elim (or_cases other (begins xs) (calm-here (is_open x.action) other (begins xs) calm.0 o)) [
-                  | inl behind ↦ full behind
-                  | inr more ↦ sym (full-same u w same) ∙ not-full ds xs first u v alike more h
-                ]
+            elim (or_cases other (begins xs) (calm-here (is_open x.action) other (begins xs) calm.0 o)) [
+              | inl behind ↦ full behind
+              | inr more ↦ sym (full-same u w same) ∙ not-full ds xs first u v alike more h
+            ]
             in
             let t = goes-on x.action (second 0) x.bytes w is free deep_here in
             let far = simulates xs ds first (λ n. second (suc n)) u t.0 (is_other x.action) (same ∙ t.2) alike calm.1
-                (λ o. is-other x.action (second 0) x.bytes w t.0 o t.1) (subst (λ n. deepest xs n ≤ CONSTRUCTS_MAX) (sym t.3) deep_later) h in
+            (λ o. is-other x.action (second 0) x.bytes w t.0 o t.1) (subst (λ n. deepest xs n ≤ CONSTRUCTS_MAX) (sym t.3) deep_later) h in
             record { work = far.work; performs = performs-step second x xs w t.0 far.work t.1 far.performs; same = far.same }
         | inr not ↦
             let one = reach ds first x (bare xs) u v (e ∙ bare-more x xs not) h in
             let two = copied x.action one.spot (second 0) x.bytes one.before one.after w one.goes (sym one.same ∙ same) (has-room x.action w.depth deep_here) in
             let far = simulates xs one.later one.spots (λ n. second (suc n)) one.after two.after (is_other x.action) two.same one.bare_is calm.1
-                (λ o. is-other x.action (second 0) x.bytes w two.after o two.goes) (subst (λ n. deepest xs n ≤ CONSTRUCTS_MAX) (sym two.depth_is) deep_later) one.performs in
+            (λ o. is-other x.action (second 0) x.bytes w two.after o two.goes) (subst (λ n. deepest xs n ≤ CONSTRUCTS_MAX) (sym two.depth_is) deep_later) one.performs in
             record { work = far.work; performs = performs-step second x xs w two.after far.work two.goes far.performs; same = far.same }
       ]
 
