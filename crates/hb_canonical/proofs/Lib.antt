@@ -19,3 +19,8 @@ pub mod RootLemmas
 pub mod SourceLemmas
 pub mod DepthLemmas
 pub mod PerformLemmas
+pub mod SeenLemmas
+pub mod LookLemmas
+pub mod SimulationLemmas
+pub mod CalmLemmas
+pub mod AgainLemmas

@@ -102,7 +102,7 @@ module _ (w : Work) (ds : List Deed) (on : Work → List Deed → Type 0) where
 -- ── a text's way ──
 
 -- the actions of a text go on one after another
-then-goes : (answer : Answer) (go : Work → Answer) (v : Work) → and_then answer go ≡ Goes v → (u : Work) × (answer ≡ Goes u) × (go u ≡ Goes v)
+pub then-goes : (answer : Answer) (go : Work → Answer) (v : Work) → and_then answer go ≡ Goes v → (u : Work) × (answer ≡ Goes u) × (go u ≡ Goes v)
 then-goes (Goes u) go v h = (u, refl, h)
 then-goes (Fails fault) go v h = cc
 then-goes Lost go v h = cc
