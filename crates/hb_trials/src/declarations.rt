@@ -1,20 +1,20 @@
 //! A lookup that answers from the declarations of a program.
 
-ghost use Rattle.std.specs.Prelude.{◌≡◌, [], None, IfOk};
+ghost use Rattle.std.specs.Prelude.{◌≡◌, ◌<◌, [], None, IfOk, IfSome};
 ghost use Rattle.hb_trials.specs.Declarations.{answers_in, refusal_in};
 
 use hb_check::lookup::{LookFail, Lookup};
+use hb_tree::limits::TYPES_MAX;
 use hb_tree::node::{Method, Node};
 use hb_tree::program::Program;
 use hb_types::ids::{ClassId, NameId, TypeSite};
 use std::alloc::{AllocError, Global};
 
-/// A method and the site at which its type is declared.
+/// A method whose type is declared.
 #[derive(Clone, Copy, Debug, PartialEq, Eq)]
 pub struct Declared {
     pub class: ClassId,
     pub name: NameId,
-    pub site: TypeSite,
 }
 
 /// A question, and the answer to it.
@@ -28,7 +28,8 @@ pub struct Answer {
 /// A lookup over declarations, of which the last one of a method counts. It remembers what was asked.
 #[derive(Debug, Drop)]
 pub struct Declarations {
-    declared: Vec<Declared>,
+    /// The method of each `type` and `type?`, by their sites; none where the name is computed.
+    declared: Vec<Option<Declared>>,
     answers: Vec<Answer>,
     refused: Option<(ClassId, NameId)>,
 }
@@ -41,9 +42,10 @@ impl Declarations {
         let mut declared = Vec::new(alloc);
         for i in 0..count.min(prog.types()) {
             let site = TypeSite(i as u16);
-            if let Node::Declare(Method::Named(class, name), _, _) = prog.node(prog.type_node(site)) {
-                declared.push(Declared { class, name, site })?;
-            }
+            declared.push(match prog.node(prog.type_node(site)) {
+                Node::Declare(Method::Named(class, name), _, _) => Some(Declared { class, name }),
+                _ => None,
+            })?;
         }
         Ok(Declarations {
             declared,
@@ -83,16 +85,25 @@ impl Lookup for Declarations {
         name: NameId,
     ) -> Result<Option<TypeSite>, LookFail> {
         let _ = alloc;
-        let mut site = None;
-        for declared in &self.declared {
-            if declared.class == class && declared.name == name {
-                site = Some(declared.site);
-            }
-        }
+        let site = newest(&self.declared, class, name);
         if self.answers.push(Answer { class, name, site }).is_err() {
             self.refused = Some((class, name));
             return Err(LookFail::NoMemory);
         }
         Ok(site)
     }
+}
+
+// The site of the last declaration of a method. The declarations count the sites from 0.
+fn newest(declared: &[Option<Declared>], class: ClassId, name: NameId) -> Option<TypeSite>
+    ensures { IfSome result (λ s. s.0 < 65536) }
+{
+    let wanted = Some(Declared { class, name });
+    let mut site = None;
+    for i in 0..declared.len().min(TYPES_MAX) {
+        if declared[i] == wanted {
+            site = Some(TypeSite(i as u16));
+        }
+    }
+    site
 }
