@@ -1,16 +1,15 @@
 -- What a check of a body answers, from what the check of its block comes to.
-use Rattle.std.proofs.Common.{◌≡◌, ℕ, ◌≤◌, List, [], ◌∷◌, ◌++◌, map, length, Bool, true, false, refl, sym, ap, ◌∙◌, subst, append-nil}
-use Rattle.std.specs.Prelude.{Result, Ok, Err, Option, Some, None, slice_get, nat_eq, if◌then◌else◌, ◌||◌}
+use Rattle.std.proofs.Common.{◌≡◌, ℕ, ◌≤◌, List, [], ◌∷◌, ◌++◌, map, Bool, true, false, refl, sym, ap, ◌∙◌, subst, append-nil}
+use Rattle.std.specs.Prelude.{Result, Ok, Err, Some, None, slice_get, nat_eq, if◌then◌else◌, ◌||◌}
 use Rattle.std.specs.Set.{distinct_count}
 use Rattle.hb_types.specs.declared.env.TheConstants.{VARIABLES_MAX}
-use Rattle.hb_types.specs.declared.ids.NodeId.{NodeId}
 use Rattle.hb_types.specs.declared.types.Ty.{Ty}
 use Rattle.hb_types.specs.declared.types.MethodTy.{MethodTy}
 use Rattle.hb_types.specs.Types.{is_below, params_of as types_of}
 use Rattle.hb_types.specs.Variables.{Variables}
 use Rattle.hb_tree.specs.declared.parts.Body.{Body}
 use Rattle.hb_tree.specs.Table.{Table}
-use Rattle.hb_tree.specs.Tree.{Tree, id_of}
+use Rattle.hb_tree.specs.Tree.{id_of}
 use Rattle.hb_tree.specs.Nodes.{params_of}
 use Rattle.hb_tree.specs.TreeAt.{tree_at}
 use Rattle.hb_tree.specs.Counts.{names_assigned_in}
@@ -19,26 +18,23 @@ use Rattle.hb_deriv.specs.declared.ill.Ill.{Ill}
 use Rattle.hb_deriv.specs.declared.ill.Reason.{Reason}
 use Rattle.hb_deriv.specs.declared.ill.Reason.TheVariants as reason
 use Rattle.hb_deriv.specs.declared.raw.Used.{Used}
-use Rattle.hb_deriv.specs.declared.raw.Step.{Step}
 use Rattle.hb_deriv.specs.declared.raw.Derivation.{Derivation}
 use Rattle.hb_deriv.specs.Judge.{Key, Types, Typed, Verdict, ◌>>=◌, Subject, variables_of, has_count, ended, ill_at, judge, judge_body}
-use Rattle.hb_deriv.specs.Faults.{BodyFails}
 use Rattle.hb_deriv.specs.Events.{events, events_body, fresh, same_key, has, looks}
 use Rattle.hb_deriv.specs.Derivation.{AgreesWith, Derives, Sites, content_of, key_of, steps_of}
 use Rattle.hb_deriv.specs.Programs.{IsFor, sites_of, subject_of}
-use Rattle.hb_deriv.proofs.KeyLemmas.{key_same, key_itself}
+use Rattle.hb_deriv.proofs.KeyLemmas.{key_itself}
 use Rattle.hb_deriv.proofs.JudgementLemmas.{body_judged}
 use Rattle.hb_deriv.proofs.FaultLemmas.{body_fails_from}
 use Rattle.hb_deriv.proofs.GoodLemmas.{derived_is_good}
-use Rattle.hb_check.specs.declared.bodies.Checked.{Checked}
 use Rattle.hb_check.specs.declared.bodies.Checked.TheVariants as checked
 use Rattle.hb_check.specs.declared.lookup.LookFail.{LookFail}
 use Rattle.hb_check.specs.declared.notes.Stop.{Stop}
 use Rattle.hb_check.specs.declared.notes.Stop.TheVariants as stop
-use Rattle.hb_check.specs.Asked.{Asked, Refusal, Declared, Agrees, answer_of, key_asked, type_at, types_in}
-use Rattle.hb_check.specs.Runs.{State, IsOnce, IsSound, HasRoom, HasLogged, Ran, Runs, keys_asked, names_of}
+use Rattle.hb_check.specs.Asked.{Asked, Declared, Agrees, answer_of, key_asked, type_at, types_in}
+use Rattle.hb_check.specs.Runs.{State, IsOnce, IsSound, Ran, keys_asked, names_of}
 use Rattle.hb_check.specs.Checked.{Checks}
-use Rattle.hb_check.specs.Checking.{Answers, IsDerivation}
+use Rattle.hb_check.specs.Checking.{Answers}
 use Rattle.hb_check.proofs.LookLemmas.{key_turned}
 use Rattle.hb_check.proofs.ParameterLemmas.{body_room}
 
@@ -57,6 +53,7 @@ agrees_more a (b ∷ answers) all apart h =
     rest : (c : Bool) → c || has (key_asked a) (map key_asked answers) ≡ false → has (key_asked a) (map key_asked answers) ≡ false
     rest true e = absurd (cc)
     rest false e = e
+
     go : (c : Bool) → same_key (key_asked b) (key_asked a) ≡ c → c || has (key_asked a) (map key_asked answers) ≡ false → (if same_key (key_asked a) (key_asked b) then a.site else declared_by all (key_asked b)) ≡ b.site
     go true e apart = absurd (cc)
     go false e apart = rw (key_turned (key_asked a) (key_asked b) ∙ e) h.0
@@ -127,6 +124,7 @@ module _ (t : Table) (class body declared : ℕ) (b : Body) (m : MethodTy) (body
     where
       fails : (types : Types) → judge_body types subject ≡ Err (record { node = b.block; reason = reason.Count })
       fails types = rw count (ap (λ (i : Ill). let v : Verdict Typed = Err i in v) (at_block reason.Count))
+
       none_looked : (types : Types) → [] ≡ looks types subject
       none_looked types = rw count refl
 
@@ -137,9 +135,10 @@ module _ (t : Table) (class body declared : ℕ) (b : Body) (m : MethodTy) (body
     subject_is = subject_is;
     tells = λ table agrees.
         let types : Types = types_in (sites_of t) table in
-        let part = a.comes table agrees in
-        (body_fails_from types subject i (body_judge types count ∙ ap (λ (v : Verdict Typed). v >>= ended subject) part.0),
-        body_looks types (keys_asked new.answers new.refused) count part.1.keys);
+        let part = a.comes table agrees in (
+          body_fails_from types subject i (body_judge types count ∙ ap (λ (v : Verdict Typed). v >>= ended subject) part.0),
+          body_looks types (keys_asked new.answers new.refused) count part.1.keys,
+        );
     once = a.leaves.1;
     cause = a.leaves.0;
     derivation = tt;
@@ -168,9 +167,10 @@ module _ (t : Table) (class body declared : ℕ) (b : Body) (m : MethodTy) (body
     subject_is = subject_is;
     tells = λ table agrees.
         let types : Types = types_in (sites_of t) table in
-        let part = a.comes table agrees in
-        (body_fails_from types subject (record { node = b.block; reason = reason.Result }) (body_ends types (G, ty) count part.0 ∙ fails),
-        body_looks types (keys_asked new.answers new.refused) count part.1.keys);
+        let part = a.comes table agrees in (
+          body_fails_from types subject (record { node = b.block; reason = reason.Result }) (body_ends types (G, ty) count part.0 ∙ fails),
+          body_looks types (keys_asked new.answers new.refused) count part.1.keys,
+        );
     once = a.leaves.0.once;
     cause = a.leaves.0.none_refused;
     derivation = tt;

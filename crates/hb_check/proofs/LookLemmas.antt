@@ -1,6 +1,6 @@
 -- What a check comes to where it looks at the type of a method.
-use Rattle.std.proofs.Common.{◌≡◌, ℕ, ap₂, List, [], ◌∷◌, ◌++◌, map, Bool, true, false, refl, sym, ap, ◌∙◌, subst, append_assoc, append-nil}
-use Rattle.std.specs.Prelude.{Result, Ok, Err, Option, Some, None, nat_eq, if◌then◌else◌, ◌||◌, ◌&&◌}
+use Rattle.std.proofs.Common.{◌≡◌, ℕ, ap₂, List, [], ◌∷◌, ◌++◌, map, Bool, true, false, refl, sym, ap, ◌∙◌, subst, append-nil}
+use Rattle.std.specs.Prelude.{Result, Ok, Err, Option, Some, None, if◌then◌else◌, ◌||◌, ◌&&◌}
 use Rattle.std.specs.Cmp.{nat_eq_equiv}
 use Rattle.hb_types.specs.declared.ids.ClassId.{ClassId}
 use Rattle.hb_types.specs.declared.ids.NameId.{NameId}
@@ -8,7 +8,6 @@ use Rattle.hb_types.specs.declared.ids.NodeId.{NodeId}
 use Rattle.hb_types.specs.declared.ids.TypeSite.{TypeSite}
 use Rattle.hb_types.specs.declared.types.MethodTy.{MethodTy}
 use Rattle.hb_types.specs.Variables.{Variables}
-use Rattle.hb_deriv.specs.declared.ill.Ill.{Ill}
 use Rattle.hb_deriv.specs.declared.ill.Reason.TheVariants as reason
 use Rattle.hb_deriv.specs.declared.raw.Used.{Used}
 use Rattle.hb_deriv.specs.declared.raw.Step.{Step}
@@ -20,9 +19,9 @@ use Rattle.hb_check.specs.declared.lookup.LookFail.{LookFail}
 use Rattle.hb_check.specs.declared.lookup.LookFail.TheVariants as look
 use Rattle.hb_check.specs.declared.notes.Stop.{Stop}
 use Rattle.hb_check.specs.declared.notes.Stop.TheVariants as stop
-use Rattle.hb_check.specs.Asked.{Asked, Refusal, Declared, Agrees, asked, refusal, answer_of, key_asked, type_at, types_in}
+use Rattle.hb_check.specs.Asked.{Asked, Refusal, Declared, Agrees, asked, refusal, answer_of, key_asked, type_at}
 use Rattle.hb_check.specs.Looking.{IsVerdict, site_among, with_type}
-use Rattle.hb_check.specs.Runs.{State, keys_asked, keys_in, names_of, IsOnce, IsSound, IsCause, HasLogged, HasFront, Comes, Leaves, Ran, Runs, with_variables}
+use Rattle.hb_check.specs.Runs.{State, keys_asked, keys_in, names_of, IsOnce, IsSound, HasLogged, HasFront, Comes, Leaves, Ran, Runs, with_variables}
 use Rattle.hb_check.proofs.RunLemmas.{within_left}
 
 -- ── keys ──
@@ -53,9 +52,10 @@ rest_apart false b h = h
 -- one key more, which is none of them
 once_more : (ks : List Key) (k : Key) → IsOnce ks → has k ks ≡ false → IsOnce (ks ++ k ∷ [])
 once_more [] k once new = (refl, tt)
-once_more (j ∷ ks) k once new =
-    (has_more j k ks once.0 (key_turned k j ∙ first_apart (same_key j k) (has k ks) new),
-    once_more ks k once.1 (rest_apart (same_key j k) (has k ks) new))
+once_more (j ∷ ks) k once new = (
+  has_more j k ks once.0 (key_turned k j ∙ first_apart (same_key j k) (has k ks) new),
+  once_more ks k once.1 (rest_apart (same_key j k) (has k ks) new),
+)
 
 -- a key that has no use was not asked
 absent : (uses : List Used) (k : Key) → site_among uses k ≡ None → has k (map key_asked (map answer_of uses)) ≡ false
@@ -81,6 +81,7 @@ answered declared (u ∷ uses) k site h agrees = go (same_key (key_of u) k) refl
   where
     is : (s : Option TypeSite) → s ≡ Some site → s ≡ Some u.site → u.site.0 ≡ site.0
     is s e f = cc
+
     go : (b : Bool) → same_key (key_of u) k ≡ b → (if b then Some u.site else site_among uses k) ≡ Some site → (site_among uses k ≡ Some site → Agrees (map answer_of uses) declared → declared k ≡ Some site.0) → declared k ≡ Some site.0
     go true same h rest =
         subst (λ (j : Key). declared j ≡ Some site.0) (key_same (key_of u) k same)
@@ -171,9 +172,10 @@ module _ (sites : Sites) (G : Variables) (node : NodeId) (class : ClassId) (name
         more = asked class name None ∷ [];
         grows = refl;
         leaves = (refl, still_once _ sound apart (one_answered None));
-        comes = λ declared agrees.
-            (ap (λ (o : Option ℕ). with_type node.0 G (type_at sites o)) (agrees_last declared answers (asked class name None) agrees),
-            logged (st (answers ++ asked class name None ∷ []) None uses steps) apart (one_answered None) refl);
+        comes = λ declared agrees. (
+          ap (λ (o : Option ℕ). with_type node.0 G (type_at sites o)) (agrees_last declared answers (asked class name None) agrees),
+          logged (st (answers ++ asked class name None ∷ []) None uses steps) apart (one_answered None) refl,
+        );
       }
 
   -- the uses are the answers, of which this is the last
@@ -198,13 +200,16 @@ module _ (sites : Sites) (G : Variables) (node : NodeId) (class : ClassId) (name
     where
       new : State
       new = st (answers ++ asked class name (Some site) ∷ []) None (uses ++ used class name site ∷ []) steps
+
       leaves : (result : Result MethodTy Stop) → IsVerdict (with_type node.0 G (sites site.0)) (with_variables G result) → IsSound (st answers None uses steps) → has k seen ≡ false → Leaves (names_of G ++ []) new (with_variables G result)
-      leaves (Ok m) is sound apart =
-          (record { none_refused = refl; once = still_once _ sound apart (one_answered (Some site)); used = uses_more site sound.used },
-          within_left (names_of G) [])
+      leaves (Ok m) is sound apart = (
+        record { none_refused = refl; once = still_once _ sound apart (one_answered (Some site)); used = uses_more site sound.used },
+        within_left (names_of G) [],
+      )
       leaves (Err (stop.Ill i)) is sound apart = (refl, still_once _ sound apart (one_answered (Some site)))
       leaves (Err (stop.Look cause)) is sound apart = absurd is
       leaves (Err stop.Full) is sound apart = absurd is
+
       comes : (result : Result MethodTy Stop) → IsVerdict (with_type node.0 G (sites site.0)) (with_variables G result) → has k seen ≡ false → (declared : Declared) → declared k ≡ Some site.0
           → Comes (with_type node.0 G (type_at sites (declared k))) (Look node.0 k ∷ []) (st answers None uses steps) new (with_variables G result)
       comes (Ok m) is apart declared e = (ap (λ (o : Option ℕ). with_type node.0 G (type_at sites o)) e ∙ is, logged new apart (one_answered (Some site)) refl)
@@ -217,25 +222,29 @@ module _ (sites : Sites) (G : Variables) (node : NodeId) (class : ClassId) (name
       → site_among uses k ≡ Some site → IsSound (st answers None uses steps)
       → Ran sites typed looked (names_of G ++ []) (st answers None uses steps) (st answers None uses steps) (with_variables G result)
   ran_known site result is found sound = record {
-      more = [];
-      grows = sym (append-nil answers);
-      leaves = leaves result is sound;
-      comes = λ declared agrees. comes result is (there sound) declared (answered declared uses k site found (subst (λ (known : List Asked). Agrees known declared) sound.used agrees));
-    }
+    more = [];
+    grows = sym (append-nil answers);
+    leaves = leaves result is sound;
+    comes = λ declared agrees. comes result is (there sound) declared (answered declared uses k site found (subst (λ (known : List Asked). Agrees known declared) sound.used agrees));
+  }
     where
       there : IsSound (st answers None uses steps) → has k seen ≡ true
       there sound =
           subst (λ (ks : List Key). has k ks ≡ true) (sym (append-nil (map key_asked answers)))
           (subst (λ (known : List Asked). has k (map key_asked known) ≡ true) (sym sound.used) (present uses k site found))
+
       old : State
       old = st answers None uses steps
+
       none_logged : has k seen ≡ true → HasLogged (Look node.0 k ∷ []) old old
       none_logged h = record { keys = rw h (sym (append-nil seen)); steps = sym (append-nil steps) }
+
       leaves : (result : Result MethodTy Stop) → IsVerdict (with_type node.0 G (sites site.0)) (with_variables G result) → IsSound old → Leaves (names_of G ++ []) old (with_variables G result)
       leaves (Ok m) is sound = (sound, within_left (names_of G) [])
       leaves (Err (stop.Ill i)) is sound = (refl, sound.once)
       leaves (Err (stop.Look cause)) is sound = absurd is
       leaves (Err stop.Full) is sound = absurd is
+
       comes : (result : Result MethodTy Stop) → IsVerdict (with_type node.0 G (sites site.0)) (with_variables G result) → has k seen ≡ true → (declared : Declared) → declared k ≡ Some site.0
           → Comes (with_type node.0 G (type_at sites (declared k))) (Look node.0 k ∷ []) old old (with_variables G result)
       comes (Ok m) is h declared e = (ap (λ (o : Option ℕ). with_type node.0 G (type_at sites o)) e ∙ is, none_logged h)
@@ -251,11 +260,13 @@ module _ (sites : Sites) (G : Variables) (node : NodeId) (class : ClassId) (name
   pub runs_refused : (cause : LookFail) (refused refused2 : Option Refusal) (answers2 : List Asked) → site_among uses k ≡ None
       → answers2 ≡ answers → refused2 ≡ Some (refusal class name cause)
       → Runs sites typed looked [] G (st answers refused uses steps) (st answers2 refused2 uses steps) (Err (stop.Look cause))
-  runs_refused cause refused refused2 answers2 none e f = record { ran = λ sound.
-      subst (λ (r : Option Refusal). Ran sites typed looked (names_of G ++ []) (st answers r uses steps) (st answers2 refused2 uses steps) (Err (stop.Look cause))) (sym sound.none_refused)
-      (subst (λ (r : Option Refusal). Ran sites typed looked (names_of G ++ []) (st answers None uses steps) (st answers2 r uses steps) (Err (stop.Look cause))) (sym f)
-      (subst (λ (known : List Asked). Ran sites typed looked (names_of G ++ []) (st answers None uses steps) (st known (Some (refusal class name cause)) uses steps) (Err (stop.Look cause))) (sym e)
-      (ran_refused cause none (sound_none refused sound)))) }
+  runs_refused cause refused refused2 answers2 none e f = record {
+    ran = λ sound.
+        subst (λ (r : Option Refusal). Ran sites typed looked (names_of G ++ []) (st answers r uses steps) (st answers2 refused2 uses steps) (Err (stop.Look cause))) (sym sound.none_refused)
+        (subst (λ (r : Option Refusal). Ran sites typed looked (names_of G ++ []) (st answers None uses steps) (st answers2 r uses steps) (Err (stop.Look cause))) (sym f)
+        (subst (λ (known : List Asked). Ran sites typed looked (names_of G ++ []) (st answers None uses steps) (st known (Some (refusal class name cause)) uses steps) (Err (stop.Look cause))) (sym e)
+        (ran_refused cause none (sound_none refused sound))));
+  }
 
   abbrev Goal : (refused : Option Refusal) (answers2 : List Asked) (refused2 : Option Refusal) (uses2 : List Used) (result : Result MethodTy Stop) → Type 0
   Goal refused answers2 refused2 uses2 result = Ran sites typed looked (names_of G ++ []) (st answers refused uses steps) (st answers2 refused2 uses2 steps) (with_variables G result)
@@ -265,10 +276,12 @@ module _ (sites : Sites) (G : Variables) (node : NodeId) (class : ClassId) (name
       → answers2 ≡ answers ++ a ∷ [] → refused2 ≡ refused
       → (IsSound (st answers None uses steps) → Goal None (answers ++ a ∷ []) None uses2 result)
       → Runs sites typed looked [] G (st answers refused uses steps) (st answers2 refused2 uses2 steps) (with_variables G result)
-  settled refused refused2 answers2 uses2 a result e f go = record { ran = λ sound.
-      subst (λ (r : Option Refusal). Goal r answers2 refused2 uses2 result) (sym sound.none_refused)
-      (subst (λ (r : Option Refusal). Goal None answers2 r uses2 result) (sym (f ∙ sound.none_refused))
-      (subst (λ (known : List Asked). Goal None known None uses2 result) (sym e) (go (sound_none refused sound)))) }
+  settled refused refused2 answers2 uses2 a result e f go = record {
+    ran = λ sound.
+        subst (λ (r : Option Refusal). Goal r answers2 refused2 uses2 result) (sym sound.none_refused)
+        (subst (λ (r : Option Refusal). Goal None answers2 r uses2 result) (sym (f ∙ sound.none_refused))
+        (subst (λ (known : List Asked). Goal None known None uses2 result) (sym e) (go (sound_none refused sound))));
+  }
 
   pub runs_absent : (refused refused2 : Option Refusal) (answers2 : List Asked) → site_among uses k ≡ None
       → answers2 ≡ answers ++ asked class name None ∷ [] → refused2 ≡ refused
@@ -293,5 +306,7 @@ module _ (sites : Sites) (G : Variables) (node : NodeId) (class : ClassId) (name
   pub runs_known : (site : TypeSite) (result : Result MethodTy Stop) (refused : Option Refusal)
       → IsVerdict (with_type node.0 G (sites site.0)) (with_variables G result) → site_among uses k ≡ Some site
       → Runs sites typed looked [] G (st answers refused uses steps) (st answers refused uses steps) (with_variables G result)
-  runs_known site result refused is found = record { ran = λ sound.
-      subst (λ (r : Option Refusal). Goal r answers r uses result) (sym sound.none_refused) (ran_known site result is found (sound_none refused sound)) }
+  runs_known site result refused is found = record {
+    ran = λ sound.
+        subst (λ (r : Option Refusal). Goal r answers r uses result) (sym sound.none_refused) (ran_known site result is found (sound_none refused sound));
+  }

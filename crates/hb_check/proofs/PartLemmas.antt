@@ -1,12 +1,11 @@
 -- The last part of an expression, and parts that begin from other variables.
-use Rattle.std.proofs.Common.{◌≡◌, ℕ, suc, ◌+◌, ◌<◌, ◌≤◌, get_or, drop, add-one, drop-cons, List, [], ◌∷◌, ◌++◌, map, length, Bool, true, false, refl, sym, ap, ◌∙◌, subst, append-nil, append_assoc, eqb-true, arith}
+use Rattle.std.proofs.Common.{◌≡◌, ℕ, suc, ◌+◌, ◌<◌, ◌≤◌, get_or, drop, add-one, drop-cons, List, [], ◌∷◌, ◌++◌, length, Bool, true, false, refl, sym, ap, ◌∙◌, subst, append-nil, append_assoc, eqb-true, arith}
 use Rattle.std.proofs.Math.ListN.{drop_of_length-le}
 use Rattle.std.specs.Prelude.{Result, Ok, Err, Option, Some, None, nat_eq, if◌then◌else◌, ◌||◌}
 use Rattle.std.specs.Cmp.{nat_eq_equiv}
 use Rattle.std.specs.List.{AllByRecursion, IsDistinct}
 use Rattle.std.specs.Set.{is_member}
 use Rattle.hb_types.specs.declared.env.TheConstants.{VARIABLES_MAX}
-use Rattle.hb_types.specs.declared.ids.NameId.{NameId}
 use Rattle.hb_types.specs.declared.ids.NodeId.{NodeId}
 use Rattle.hb_types.specs.declared.types.Ty.{Ty}
 use Rattle.hb_types.specs.declared.types.Ty.TheVariants as ty
@@ -18,7 +17,6 @@ use Rattle.hb_tree.specs.declared.node.Method.TheVariants as method
 use Rattle.hb_tree.specs.Table.{Table}
 use Rattle.hb_tree.specs.Tree.{Tree, NoTree, Trees}
 use Rattle.hb_tree.specs.TreeAt.{forest_at, tree_of, tree_at}
-use Rattle.hb_types.specs.Types.{join_of}
 use Rattle.hb_types.specs.Variables.{Variables, IsMap, get, set, join, joined}
 use Rattle.hb_types.specs.Variables.{has as has_name}
 use Rattle.hb_deriv.specs.declared.ill.Reason.{Reason}
@@ -31,7 +29,7 @@ use Rattle.hb_check.specs.Checked.{Checks, ChecksMethod}
 use Rattle.hb_check.specs.Looking.{method_of, with_type}
 use Rattle.hb_check.specs.Rules.{concluded}
 use Rattle.hb_check.specs.Runs.{State, names_of, Within, HasRoom, IsSound, Runs}
-use Rattle.hb_check.proofs.RunLemmas.{within_itself, within_left, within_right, within_both, leaves_wider, runs_stop, runs_then, runs_from, runs_wider, runs_alike}
+use Rattle.hb_check.proofs.RunLemmas.{within_itself, within_left, within_right, within_both, leaves_wider, runs_stop, runs_then, runs_from, runs_alike}
 
 -- ── names ──
 
@@ -57,7 +55,7 @@ no_room : (G : Variables) (x : ℕ) → IsMap G → length G ≡ VARIABLES_MAX �
 unfolding IsDistinct
 no_room G x unique full new room =
     let most = room (x ∷ names_of G) (apart_from G x new, map_apart G unique)
-        (within_both (x ∷ []) (names_of G) (names_of G ++ x ∷ []) (within_right (names_of G) (x ∷ [])) (within_left (names_of G) (x ∷ []))) in
+    (within_both (x ∷ []) (names_of G) (names_of G ++ x ∷ []) (within_right (names_of G) (x ∷ [])) (within_left (names_of G) (x ∷ []))) in
     let same = names_length G in
     omega (arith, most, same, full)
 
@@ -69,6 +67,7 @@ names_set (v ∷ G) x t = go (nat_eq v.0.0 x) refl (names_set G x t)
     known e = within_both (x ∷ []) (names_of G) (v.0.0 ∷ (names_of G ++ x ∷ []))
         (λ y h. within_right (v.0.0 ∷ names_of G) (x ∷ []) y h)
         (λ y h. within_right (v.0.0 ∷ []) (names_of G ++ x ∷ []) y (within_left (names_of G) (x ∷ []) y h))
+
     go : (b : Bool) → nat_eq v.0.0 x ≡ b → Within (names_of (set G x t)) (names_of G ++ x ∷ []) → Within (names_of (if b then ((record { 0 = x }), t) ∷ G else v ∷ set G x t)) (v.0.0 ∷ (names_of G ++ x ∷ []))
     go true e rest = known e
     go false e rest = within_both (v.0.0 ∷ []) (names_of (set G x t)) (v.0.0 ∷ (names_of G ++ x ∷ []))
@@ -139,31 +138,37 @@ module _ {X Y : Type 0} {sites : Sites} {v : Types → Verdict (Variables × X)}
       → (IsSound old → Within (names_of H) (names_of G ++ A))
       → Runs sites (λ types. k types r) (λ types. l types r) [] H mid new result
       → Runs sites (λ types. v types >>= k types) (λ types. es types ++ behind (v types) (l types)) A G old new result
-  runs_ended {A} {G} H {old} {mid} {new} {r} {result} a w b = record { ran = λ sound.
-      (subst (λ names. Runs sites (λ types. v types >>= k types) (λ types. es types ++ behind (v types) (l types)) names G old new result) (append-nil A) (runs_from k l a (w sound) b)).ran sound }
+  runs_ended {A} {G} H {old} {mid} {new} {r} {result} a w b = record {
+    ran = λ sound.
+        (subst (λ names. Runs sites (λ types. v types >>= k types) (λ types. es types ++ behind (v types) (l types)) names G old new result) (append-nil A) (runs_from k l a (w sound) b)).ran sound;
+  }
 
 -- a part that begins from fewer variables, and assigns fewer
 pub runs_begun : {X : Type 0} {sites : Sites} {v : Types → Verdict (Variables × X)} {es : Types → Events} (A B : List ℕ) (G H : Variables) {old new : State} {result : Result (Variables × X) Stop}
     → Within (names_of H ++ A) (names_of G ++ B) → Runs sites v es A H old new result → Runs sites v es B G old new result
-runs_begun A B G H {new = new} {result} w a = record { ran = λ sound.
-    let part = a.ran sound in
-    record {
-      more = part.more;
-      grows = part.grows;
-      leaves = leaves_wider (names_of H ++ A) (names_of G ++ B) new result w part.leaves;
-      comes = part.comes;
-    } }
+runs_begun A B G H {new = new} {result} w a = record {
+  ran = λ sound.
+      let part = a.ran sound in
+      record {
+        more = part.more;
+        grows = part.grows;
+        leaves = leaves_wider (names_of H ++ A) (names_of G ++ B) new result w part.leaves;
+        comes = part.comes;
+      };
+}
 
 -- the environment is full at an assignment
 pub runs_full : {X : Type 0} (sites : Sites) (v : Types → Verdict (Variables × X)) (es : Types → Events) (G : Variables) (x : ℕ) (s : State)
     → IsMap G → length G ≡ VARIABLES_MAX → has_name G x ≡ false
     → Runs sites v es (x ∷ []) G s s (let y : Result (Variables × X) Stop = Err stop.Full in y)
-runs_full sites v es G x s unique full new = record { ran = λ sound. record {
+runs_full sites v es G x s unique full new = record {
+  ran = λ sound. record {
     more = [];
     grows = sym (append-nil s.answers);
     leaves = no_room G x unique full new;
     comes = λ declared agrees. tt;
-  } }
+  };
+}
 
 -- the rule that concludes an expression
 pub runs_ruled : {sites : Sites} {A : List ℕ} {H : Variables} {old new : State} {result : Result Typed Stop} (id : ℕ) (G : Variables) (v : Verdict Typed) (verdict : Result Ty Reason)

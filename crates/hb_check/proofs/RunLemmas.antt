@@ -1,17 +1,16 @@
 -- What a part comes to, and what follows it, make what the whole comes to.
 use Rattle.std.proofs.Common.{◌≡◌, ℕ, List, [], ◌∷◌, ◌++◌, map, Bool, true, false, refl, sym, ap, ◌∙◌, subst, append_assoc, append-nil}
-use Rattle.std.specs.Prelude.{Result, Ok, Err, Option, Some, None, nat_eq, if◌then◌else◌, ◌||◌}
+use Rattle.std.specs.Prelude.{Result, Ok, Err, Option, nat_eq, ◌||◌}
 use Rattle.std.specs.Set.{is_member}
 use Rattle.hb_types.specs.declared.ids.NodeId.{NodeId}
 use Rattle.hb_types.specs.declared.types.Ty.{Ty}
 use Rattle.hb_types.specs.Variables.{Variables}
-use Rattle.hb_tree.specs.Tree.{Tree}
 use Rattle.hb_deriv.specs.declared.raw.Step.{Step}
 use Rattle.hb_deriv.specs.declared.raw.Used.{Used}
 use Rattle.hb_deriv.specs.declared.ill.Ill.{Ill}
 use Rattle.hb_deriv.specs.declared.ill.Reason.{Reason}
 use Rattle.hb_deriv.specs.Judge.{Key, Types, Typed, Verdict, ◌>>=◌}
-use Rattle.hb_deriv.specs.Events.{Event, Events, Look, Done, behind, done, has, fresh}
+use Rattle.hb_deriv.specs.Events.{Events, Look, Done, behind, done, fresh}
 use Rattle.hb_deriv.specs.Derivation.{Sites, step, steps_of}
 use Rattle.hb_deriv.proofs.LookLemmas.{fresh_both}
 use Rattle.hb_check.specs.declared.notes.Stop.{Stop}
@@ -19,7 +18,7 @@ use Rattle.hb_check.specs.declared.notes.Stop.TheVariants as stop
 use Rattle.hb_check.specs.declared.lookup.LookFail.TheVariants as look
 use Rattle.hb_check.specs.Asked.{Asked, Refusal, Declared, Agrees, answer_of, types_in}
 use Rattle.hb_check.specs.Rules.{concluded}
-use Rattle.hb_check.specs.Runs.{State, keys_asked, keys_in, IsCause, names_of, Within, HasRoom, HasLogged, HasFront, Comes, Leaves, Ran, Runs, IsSound}
+use Rattle.hb_check.specs.Runs.{State, keys_asked, keys_in, IsCause, names_of, Within, HasLogged, HasFront, Comes, Leaves, Ran, Runs}
 
 -- ── keys and steps ──
 
@@ -151,9 +150,10 @@ module _ {X Y : Type 0} {sites : Sites} {v : Types → Verdict (Variables × X)}
     leaves = a.leaves;
     comes = λ declared agrees.
         let types : Types = types_in sites declared in
-        let first = a.comes declared agrees in
-        (ap (λ (x : Verdict (Variables × X)). x >>= k types) first.0,
-        subst (λ (x : Verdict (Variables × X)). HasLogged (es types ++ behind x (l types)) old new) (sym first.0) (logged_none first.1));
+        let first = a.comes declared agrees in (
+          ap (λ (x : Verdict (Variables × X)). x >>= k types) first.0,
+          subst (λ (x : Verdict (Variables × X)). HasLogged (es types ++ behind x (l types)) old new) (sym first.0) (logged_none first.1),
+        );
   }
   ran_stop (stop.Look cause) a w = record {
     more = a.more;
@@ -174,9 +174,11 @@ module _ {X Y : Type 0} {sites : Sites} {v : Types → Verdict (Variables × X)}
       → Within (names_of H) (names_of G ++ A)
       → Runs sites (λ types. k types r) (λ types. l types r) B H mid new result
       → Runs sites (λ types. v types >>= k types) (λ types. es types ++ behind (v types) (l types)) (A ++ B) G old new result
-  runs_from {A} {B} {G} {H} a w b = record { ran = λ sound.
-      let first = a.ran sound in
-      ran_then first (b.ran first.leaves.0) (begun A B G H w) }
+  runs_from {A} {B} {G} {H} a w b = record {
+    ran = λ sound.
+        let first = a.ran sound in
+        ran_then first (b.ran first.leaves.0) (begun A B G H w);
+  }
     where
       begun : (A B : List ℕ) (G H : Variables) → Within (names_of H) (names_of G ++ A) → Within (names_of H ++ B) (names_of G ++ (A ++ B))
       begun A B G H w = within_both (names_of H) B (names_of G ++ (A ++ B))
@@ -204,32 +206,36 @@ module _ {X Y : Type 0} {sites : Sites} {v : Types → Verdict (Variables × X)}
 -- a part that assigns names which are among these
 pub runs_wider : {X : Type 0} {sites : Sites} {v : Types → Verdict (Variables × X)} {es : Types → Events} (A B : List ℕ) {G : Variables} {old new : State} {result : Result (Variables × X) Stop}
     → Within A B → Runs sites v es A G old new result → Runs sites v es B G old new result
-runs_wider A B {G} {new = new} {result} w a = record { ran = λ sound.
-    let part = a.ran sound in
-    record {
-      more = part.more;
-      grows = part.grows;
-      leaves = leaves_wider (names_of G ++ A) (names_of G ++ B) new result
-          (within_both (names_of G) A (names_of G ++ B) (within_left (names_of G) B) (λ x i. within_right (names_of G) B x (w x i)))
-          part.leaves;
-      comes = part.comes;
-    } }
+runs_wider A B {G} {new = new} {result} w a = record {
+  ran = λ sound.
+      let part = a.ran sound in
+      record {
+        more = part.more;
+        grows = part.grows;
+        leaves = leaves_wider (names_of G ++ A) (names_of G ++ B) new result
+            (within_both (names_of G) A (names_of G ++ B) (within_left (names_of G) B) (λ x i. within_right (names_of G) B x (w x i)))
+            part.leaves;
+        comes = part.comes;
+      };
+}
 
 -- the same verdict and events in each table
 pub runs_alike : {X : Type 0} {sites : Sites} (v w : Types → Verdict (Variables × X)) (es fs : Types → Events) {A : List ℕ} {G : Variables} {old new : State} {result : Result (Variables × X) Stop}
     → ((types : Types) → v types ≡ w types) → ((types : Types) → es types ≡ fs types)
     → Runs sites v es A G old new result → Runs sites w fs A G old new result
-runs_alike {sites = sites} v w es fs {old = old} {new} {result} same also a = record { ran = λ sound.
-    let part = a.ran sound in
-    record {
-      more = part.more;
-      grows = part.grows;
-      leaves = part.leaves;
-      comes = λ declared agrees.
-          let types : Types = types_in sites declared in
-          subst (λ x. Comes x (fs types) old new result) (same types)
-          (subst (λ x. Comes (v types) x old new result) (also types) (part.comes declared agrees));
-    } }
+runs_alike {sites = sites} v w es fs {old = old} {new} {result} same also a = record {
+  ran = λ sound.
+      let part = a.ran sound in
+      record {
+        more = part.more;
+        grows = part.grows;
+        leaves = part.leaves;
+        comes = λ declared agrees.
+            let types : Types = types_in sites declared in
+            subst (λ x. Comes x (fs types) old new result) (same types)
+            (subst (λ x. Comes (v types) x old new result) (also types) (part.comes declared agrees));
+      };
+}
 
 -- ── parts that do nothing ──
 
@@ -241,42 +247,50 @@ none_asked s = sym (append-nil s.answers)
 
 -- a part has a type at once
 pub runs_value : {X : Type 0} (sites : Sites) (G : Variables) (s : State) (x : X) → Runs sites (λ types. Ok (G, x)) (λ types. []) [] G s s (Ok (G, x))
-runs_value sites G s x = record { ran = λ sound. record {
+runs_value sites G s x = record {
+  ran = λ sound. record {
     more = [];
     grows = none_asked s;
     leaves = (sound, within_left (names_of G) []);
     comes = λ declared agrees. (refl, logged_nothing s);
-  } }
+  };
+}
 
 -- or has none
 pub runs_ill : {X : Type 0} (sites : Sites) (A : List ℕ) (G : Variables) (s : State) (i : Ill) → Runs sites (λ types. (let v : Verdict (Variables × X) = Err i in v)) (λ types. []) A G s s (Err (stop.Ill i))
-runs_ill sites A G s i = record { ran = λ sound. record {
+runs_ill sites A G s i = record {
+  ran = λ sound. record {
     more = [];
     grows = none_asked s;
     leaves = (sound.none_refused, sound.once);
     comes = λ declared agrees. (refl, logged_nothing s);
-  } }
+  };
+}
 
 -- an expression is finished with a type
 pub runs_done : (sites : Sites) (G : Variables) (id : ℕ) (t : Ty) (answers : List Asked) (refused : Option Refusal) (uses uses2 : List Used) (steps steps2 : List Step)
     → uses2 ≡ uses → steps2 ≡ steps ++ step id t ∷ []
     → Runs sites (λ types. Ok (G, t)) (λ types. Done id t ∷ []) [] G (record { answers = answers; refused = refused; uses = uses; steps = steps }) (record { answers = answers; refused = refused; uses = uses2; steps = steps2 }) (Ok (G, t))
-runs_done sites G id t answers refused uses uses2 steps steps2 same noted = record { ran = λ sound. record {
+runs_done sites G id t answers refused uses uses2 steps steps2 same noted = record {
+  ran = λ sound. record {
     more = [];
     grows = sym (append-nil answers);
     leaves = (record { none_refused = sound.none_refused; once = sound.once; used = subst (λ (us : List Used). answers ≡ map answer_of us) (sym same) sound.used }, within_left (names_of G) []);
     comes = λ declared agrees. (refl, record { keys = sym (append-nil (keys_asked answers refused)); steps = noted });
-  } }
+  };
+}
 
 -- memory ran out, and no further key was asked
 pub runs_out : {X : Type 0} (sites : Sites) (v : Types → Verdict (Variables × X)) (es : Types → Events) (A : List ℕ) (G : Variables) (answers : List Asked) (refused : Option Refusal) (uses uses2 : List Used) (steps steps2 : List Step)
     → Runs sites v es A G (record { answers = answers; refused = refused; uses = uses; steps = steps }) (record { answers = answers; refused = refused; uses = uses2; steps = steps2 }) (let x : Result (Variables × X) Stop = Err (stop.Look look.NoMemory) in x)
-runs_out sites v es A G answers refused uses uses2 steps steps2 = record { ran = λ sound. record {
+runs_out sites v es A G answers refused uses uses2 steps steps2 = record {
+  ran = λ sound. record {
     more = [];
     grows = sym (append-nil answers);
     leaves = (subst (λ (r : Option Refusal). IsCause look.NoMemory r) (sym sound.none_refused) refl, sound.once);
     comes = λ declared agrees. record { rest = fresh (keys_asked answers refused) (es (types_in sites declared)); front = refl };
-  } }
+  };
+}
 
 -- a rule that gives a type is done with the finished expression
 pub runs_given : {sites : Sites} {G : Variables} {id : ℕ} {t : Ty} {old new : State} {result : Result Typed Stop} (verdict : Result Ty Reason)

@@ -7,8 +7,8 @@ use Rattle.hb_types.specs.declared.types.MethodTy.{MethodTy}
 use Rattle.hb_types.specs.Variables.{Variables}
 use Rattle.hb_deriv.specs.declared.ill.Reason.TheVariants as reason
 use Rattle.hb_deriv.specs.declared.raw.Used.{Used}
-use Rattle.hb_deriv.specs.Judge.{Key, Types, Verdict, fault, keys_of}
-use Rattle.hb_deriv.specs.Events.{Events, same_key, look_at}
+use Rattle.hb_deriv.specs.Judge.{Key, Types, Verdict, fault}
+use Rattle.hb_deriv.specs.Events.{same_key}
 use Rattle.hb_deriv.specs.Derivation.{key_of}
 use Rattle.hb_check.specs.declared.notes.Stop.{Stop}
 use Rattle.hb_check.specs.declared.notes.Stop.TheVariants as stop

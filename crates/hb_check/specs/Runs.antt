@@ -5,7 +5,6 @@ use Rattle.std.specs.Set.{is_member}
 use Rattle.hb_types.specs.declared.types.Ty.{Ty}
 use Rattle.hb_types.specs.declared.env.TheConstants.{VARIABLES_MAX}
 use Rattle.hb_types.specs.Variables.{Variables}
-use Rattle.hb_deriv.specs.declared.ill.Ill.{Ill}
 use Rattle.hb_deriv.specs.declared.raw.Used.{Used}
 use Rattle.hb_deriv.specs.declared.raw.Step.{Step}
 use Rattle.hb_deriv.specs.Judge.{Key, Types, Verdict}

@@ -99,7 +99,7 @@ impl Notes {
     pub fn finish(&mut self, node: NodeId, ty: Ty) -> Result<Ty, Stop>
         ensures { (sites : Sites) (G : Variables) (answers : List Asked) (refused : Option Refusal)
             → Runs sites (λ types. Ok (G, ty)) (λ types. Done node.0 ty ∷ []) [] G
-                (state answers refused self.old) (state answers refused self.new) (with_variables G result) }
+            (state answers refused self.old) (state answers refused self.new) (with_variables G result) }
     {
         self.steps.push(Step { node, ty })?;
         Ok(ty)
@@ -109,7 +109,7 @@ impl Notes {
     pub fn conclude(&mut self, node: NodeId, verdict: Result<Ty, Reason>) -> Result<Ty, Stop>
         ensures { (sites : Sites) (G : Variables) (answers : List Asked) (refused : Option Refusal)
             → Runs sites (λ types. concluded node.0 G verdict) (λ types. done node.0 (concluded node.0 G verdict)) [] G
-                (state answers refused self.old) (state answers refused self.new) (with_variables G result) }
+            (state answers refused self.old) (state answers refused self.new) (with_variables G result) }
     {
         match verdict {
             Ok(ty) => self.finish(node, ty),

@@ -93,9 +93,5 @@ pub fn looped(keeps: bool) -> Result<Ty, Reason>
 pub fn declared(asks: bool) -> Ty
     ensures { result ≡ declaration_type asks }
 {
-    if asks {
-        Ty::Bool
-    } else {
-        Ty::Nil
-    }
+    if asks { Ty::Bool } else { Ty::Nil }
 }

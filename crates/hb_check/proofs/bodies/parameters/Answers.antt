@@ -1,4 +1,4 @@
-use Rattle.std.proofs.Common.{◌≡◌, ◌≤◌, ◌<◌, refl, arith, length}
+use Rattle.std.proofs.Common.{refl, arith}
 use Rattle.hb_check.proofs.ParameterLemmas.{parameter_set, parameter_room}
 use Rattle.hb_check.proofs.bodies.parameters.Goals as goal
 

@@ -1,11 +1,11 @@
-use Rattle.std.proofs.Common.{◌≡◌, ◌∙◌, sym, ap, refl, [], ◌∷◌, ◌++◌, ◌+◌, drop, arith, length-append}
+use Rattle.std.proofs.Common.{refl, [], ◌∷◌, ◌++◌, ◌+◌, drop, arith, length-append}
 use Rattle.std.proofs.lemmas.Result.{err_from_is_err_and}
 use Rattle.hb_tree.specs.TreeAt.{tree_at, forest_at}
 use Rattle.hb_tree.specs.Counts.{names_assigned_in, names_assigned_in_all}
 use Rattle.hb_types.specs.Variables.{set, join}
 use Rattle.hb_deriv.specs.Programs.{sites_of}
 use Rattle.hb_check.proofs.RunLemmas.{runs_value, within_left, runs_then, runs_from, runs_stop, runs_wider}
-use Rattle.hb_check.proofs.PartLemmas.{call_parts, checks_declare, forest_next, forest_none, names_join_other, runs_ended_early, runs_last, runs_ended, runs_begun, runs_full, runs_grouped, runs_ruled, within_turned, within_set, within_joined}
+use Rattle.hb_check.proofs.PartLemmas.{call_parts, checks_declare, forest_next, forest_none, names_join_other, runs_ended_early, runs_last, runs_ended, runs_begun, runs_full, runs_grouped, runs_ruled, within_turned, within_set}
 use Rattle.hb_check.proofs.expressions.+expressions.Goals as goal
 
 pub check_part-returns-in_err-check_node-clause-checks : goal.check_part-returns-in_err-check_node-clause-checks

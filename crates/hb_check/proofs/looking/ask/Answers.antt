@@ -1,4 +1,3 @@
-use Rattle.std.proofs.Common.{◌≡◌}
 use Rattle.std.proofs.lemmas.Result.{err_from_is_err_and}
 use Rattle.hb_deriv.specs.Programs.{sites_of}
 use Rattle.hb_check.proofs.LookLemmas.{runs_refused, runs_absent, runs_forgotten, runs_found}

@@ -1,4 +1,4 @@
-use Rattle.std.proofs.Common.{◌≡◌, ◌∙◌, sym}
+use Rattle.std.proofs.Common.{◌∙◌, sym}
 use Rattle.hb_deriv.specs.Programs.{sites_of}
 use Rattle.hb_check.proofs.LookLemmas.{runs_known}
 use Rattle.hb_check.proofs.looking.method_type.Goals as goal
