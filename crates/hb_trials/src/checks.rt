@@ -43,6 +43,16 @@ fn read(rt: &impl Abort, alloc: Global, text: &[u8]) -> Program {
     parse(alloc, text, &tokens).expect(rt, "a program")
 }
 
+// The reason and the place of a fault, where there is one.
+fn fault_of(prog: &Program, found: &Checked) -> Option<(Reason, (u32, u32))> {
+    match found {
+        Checked::Bad(ill) if (ill.node.0 as usize) < prog.nodes() => {
+            Some((ill.reason, prog.place(ill.node)))
+        }
+        _ => None,
+    }
+}
+
 /// What stands before each body of the table. The body begins behind it, at column 15 of line 9.
 const BEFORE: &[u8] = b"class A
 class B
@@ -104,11 +114,7 @@ const BODIES: [(&[u8], u16, Expected); 54] = [
     ),
     (b"while x < 3 do x = x + 1 end", 0, Typed(Ty::Nil)),
     (b"while x < 3 do x = y end", 0, Fails(Reason::Loop, 0)),
-    (
-        b"while (x = y) == y do x = 3 end",
-        0,
-        Typed(Ty::Nil),
-    ),
+    (b"while (x = y) == y do x = 3 end", 0, Typed(Ty::Nil)),
     (
         b"while x < 3 do z = 1 end; z",
         0,
@@ -130,11 +136,7 @@ const BODIES: [(&[u8], u16, Expected); 54] = [
     (b"type? A.k : () -> Int", 0, Typed(Ty::Bool)),
     (b"type A.(y) : () -> Int", 0, Typed(Ty::Nil)),
     (b"type? A.(y) : () -> Int", 0, Typed(Ty::Bool)),
-    (
-        b"type? A.(x) : () -> Int",
-        0,
-        Fails(Reason::Operand, 0),
-    ),
+    (b"type? A.(x) : () -> Int", 0, Fails(Reason::Operand, 0)),
     (b"x; y", 0, Typed(Ty::Str)),
     (b"x", 1, Typed(Ty::Int)),
     (b"y", 1, Fails(Reason::Result, 2)),
@@ -150,17 +152,17 @@ fn each_form_of_a_body_has_its_type_or_fault(rt: HostRuntime) -> Result<(), Fail
         let prog = read(&rt, rt.alloc(), &text);
         // The body of the table is the last one to end.
         let last = prog.bodies().saturating_sub(1) as u16;
-        match (checked(&rt, rt.alloc(), &prog, last, *declared, 5)?.0, expected) {
+        let (found, _) = checked(&rt, rt.alloc(), &prog, last, *declared, 5)?;
+        match (found, expected) {
             (Checked::Good(derivation), Typed(ty)) => {
                 let last = derivation.steps.last().map(|step| step.ty);
                 assert_eq!(rt; last, Some(*ty), "{body:?}");
             }
-            (Checked::Bad(ill), Fails(reason, behind)) => {
-                assert_eq!(rt; ill.reason, *reason, "{body:?}");
-                assert!(rt; (ill.node.0 as usize) < prog.nodes());
-                assert_eq!(rt; prog.place(ill.node), (9, 15 + behind), "{body:?}");
+            (found, Typed(_)) => panic!(rt; "{body:?}: {found:?}"),
+            (found, Fails(reason, behind)) => {
+                let place = (9, behind.saturating_add(15));
+                assert_eq!(rt; fault_of(&prog, &found), Some((*reason, place)), "{body:?}");
             }
-            (found, _) => panic!(rt; "{body:?}: {found:?}"),
         }
     }
     Ok(())
@@ -182,10 +184,15 @@ end
 #[test]
 fn a_derivation_has_its_uses_and_steps(rt: HostRuntime) -> Result<(), Fail> {
     let prog = read(&rt, rt.alloc(), TWO);
-    let Checked::Good(derivation) = checked(&rt, rt.alloc(), &prog, 1, 1, 2)?.0 else {
+    let (found, _) = checked(&rt, rt.alloc(), &prog, 1, 1, 2)?;
+    let Checked::Good(derivation) = found else {
         panic!(rt; "not well typed");
     };
-    let uses = derivation.uses.iter().map(|used| used.site.0).collect::<Vec<u16>>(rt.alloc())?;
+    let uses = derivation
+        .uses
+        .iter()
+        .map(|used| used.site.0)
+        .collect::<Vec<u16>>(rt.alloc())?;
     assert_eq!(rt; uses.as_slice(), [0].as_slice());
     let mut steps = Vec::new(rt.alloc());
     for step in &derivation.steps {
@@ -194,11 +201,8 @@ fn a_derivation_has_its_uses_and_steps(rt: HostRuntime) -> Result<(), Fail> {
     }
     let expected = [((6, 11), Ty::Class(ClassId(0))), ((6, 16), Ty::Int)];
     assert_eq!(rt; steps.as_slice(), expected.as_slice());
-    let Checked::Bad(ill) = checked(&rt, rt.alloc(), &prog, 1, 1, 3)?.0 else {
-        panic!(rt; "well typed though the method gives a text");
-    };
-    assert!(rt; (ill.node.0 as usize) < prog.nodes());
-    assert_eq!(rt; (ill.reason, prog.place(ill.node)), (Reason::Result, (6, 18)));
+    let (found, _) = checked(&rt, rt.alloc(), &prog, 1, 1, 3)?;
+    assert_eq!(rt; fault_of(&prog, &found), Some((Reason::Result, (6, 18))));
     Ok(())
 }
 
@@ -214,17 +218,15 @@ end
 #[test]
 fn unlike_branches_are_of_any_type(rt: HostRuntime) -> Result<(), Fail> {
     let prog = read(&rt, rt.alloc(), UNLIKE);
-    let Checked::Bad(ill) = checked(&rt, rt.alloc(), &prog, 0, 0, 1)?.0 else {
-        panic!(rt; "well typed");
-    };
-    assert!(rt; (ill.node.0 as usize) < prog.nodes());
-    assert_eq!(rt; (ill.reason, prog.place(ill.node)), (Reason::Operand, (4, 44)));
+    let (found, _) = checked(&rt, rt.alloc(), &prog, 0, 0, 1)?;
+    assert_eq!(rt; fault_of(&prog, &found), Some((Reason::Operand, (4, 44))));
     Ok(())
 }
 
 #[test]
 fn a_method_that_is_called_twice_is_asked_for_once(rt: HostRuntime) -> Result<(), Fail> {
-    let text = b"class A;script s;type A.g : () -> Int;type A.f : () -> Int;def A.f() self.g + self.g * self.g end;end";
+    let text =
+        b"class A;script s;type A.g : () -> Int;type A.f : () -> Int;def A.f() self.g + self.g * self.g end;end";
     let prog = read(&rt, rt.alloc(), text);
     let (found, table) = checked(&rt, rt.alloc(), &prog, 0, 1, 2)?;
     let Checked::Good(derivation) = found else {
@@ -242,7 +244,10 @@ const NOTS: usize = 252;
 
 // Whether the body of such a program is well typed. None: memory ran out, or the text is no program.
 fn highest_is_good(alloc: Global) -> Option<bool> {
-    let mut text = Vec::from_slice(alloc, b"class A;script s;type A.f : () -> Bool;def A.f() ").ok()?;
+    let mut text = Vec::from_slice(
+        alloc,
+        b"class A;script s;type A.f : () -> Bool;def A.f() ",
+    ).ok()?;
     for _ in 0..NOTS {
         text.extend_from_slice(b"not ").ok()?;
     }
@@ -256,7 +261,15 @@ fn highest_is_good(alloc: Global) -> Option<bool> {
         return None;
     }
     let mut table = Declarations::of(alloc, &prog, 0).ok()?;
-    let found = check(alloc, &prog, ClassId(0), BodySite(0), TypeSite(0), &mut table).ok()?;
+    let found = check(
+        alloc,
+        &prog,
+        ClassId(0),
+        BodySite(0),
+        TypeSite(0),
+        &mut table,
+    )
+    .ok()?;
     Some(matches!(found, Checked::Good(_)))
 }
 

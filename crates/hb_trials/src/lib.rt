@@ -2,7 +2,6 @@
 //! below the parser has, and a lookup for them.
 #![tactic(auto)]
 
-pub mod declarations;
-
 #[cfg(test)]
 mod checks;
+pub mod declarations;
