@@ -71,4 +71,3 @@ adds_act c old new a adds =
     let e = eq-eqb c c refl in let one : acts c (entry c a ∷ []) ≡ a ∷ [] = rw e refl in
     ap (acts c) adds.1 ∙ acts_append c (old ++ adds.0) (entry c a ∷ []) ∙ ap (λ w. acts c (old ++ adds.0) ++ w) one
     ∙ ap (λ w. w ++ a ∷ []) (acts_append c old adds.0 ∙ ap (λ w. acts c old ++ w) (acts_none c adds.0 adds.2) ∙ append-nil (acts c old))
-

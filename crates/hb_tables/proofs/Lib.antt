@@ -5,3 +5,5 @@ pub mod FrameLemmas
 pub mod StandingLemmas
 pub mod FrontLemmas
 pub mod RowLemmas
+pub mod SumLemmas
+pub mod PlainLemmas

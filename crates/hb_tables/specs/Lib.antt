@@ -5,3 +5,4 @@ pub mod Standing
 pub mod Names
 pub mod Verdicts
 pub mod Rows
+pub mod Plain
