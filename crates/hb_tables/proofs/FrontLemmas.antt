@@ -1,11 +1,11 @@
 -- From the fronts of callers to the whole list.
 use Rattle.std.proofs.Common.{◌≡◌, ◌⊎◌, inl, inr, ℕ, eqb, Bool, true, false, cond, List, [], ◌∷◌, ◌++◌, sym, refl, ap, ◌∙◌, eq-eqb}
 use Rattle.std.proofs.lemmas.List.{append-nil}
-use mathlib.Core.List.{IsPrefix}
 use Rattle.hb_tables.specs.declared.entry.Entry.{Entry}
 use Rattle.hb_tables.specs.declared.entry.Act.{Act}
 use Rattle.hb_tables.specs.History.{entry, journal, Every, Adds}
 use Rattle.hb_tables.specs.Frames.{acts}
+use Rattle.hb_tables.specs.Fronts.{HasFront}
 use Rattle.hb_tables.proofs.FrameLemmas.{acts_append}
 
 -- an element of two lists joined stands in the first, or in the second
@@ -36,17 +36,11 @@ own_here c xs ys e is h =
     go [] k = cc k
     go (y ∷ l) k = cc k
 
--- What holds of each caller's own entries in its front holds of all entries, where the fronts have each caller's acts.
-pub record IsFrontOf (F : List Entry → Entry → Type 0) (log : List Entry) (c : ℕ) : Type 0 where
-  pub front : List Entry
-  pub begins : IsPrefix front log
-  pub whole : acts c log ≡ acts c front
-  pub own : (before after : List Entry) (e : Entry) → front ≡ before ++ e ∷ after → e.caller.0 ≡ c → F before e
-
-pub every_of_fronts : (F : List Entry → Entry → Type 0) (log : List Entry) → ((c : ℕ) → IsFrontOf F log c) → Every F log
+-- what holds of each caller's own entries in its front holds of all entries
+pub every_of_fronts : (F : List Entry → Entry → Type 0) (log : List Entry) → ((c : ℕ) → HasFront F log c) → Every F log
 every_of_fronts F log fronts before after e is = go (in_two f.front f.begins.0 before after e (f.begins.1 ∙ is))
   where
-    f : IsFrontOf F log e.caller.0
+    f : HasFront F log e.caller.0
     f = fronts e.caller.0
 
     rest : acts e.caller.0 f.begins.0 ≡ []

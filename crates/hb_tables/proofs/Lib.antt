@@ -7,3 +7,5 @@ pub mod FrontLemmas
 pub mod RowLemmas
 pub mod SumLemmas
 pub mod PlainLemmas
+pub mod NameLemmas
+pub mod VerdictLemmas

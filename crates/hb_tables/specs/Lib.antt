@@ -6,3 +6,6 @@ pub mod Names
 pub mod Verdicts
 pub mod Rows
 pub mod Plain
+pub mod Changes
+pub mod Fronts
+pub mod Holdings

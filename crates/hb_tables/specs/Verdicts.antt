@@ -1,5 +1,5 @@
 -- The verdict on a call, and the keys on which it rests.
-use Rattle.std.specs.Prelude.{ℕ, List, [], length, Option, Some, None, Ok, Err, Bool, nat_eq, ◌&&◌, if◌then◌else◌}
+use Rattle.std.specs.Prelude.{◌≡◌, ℕ, List, [], length, Option, Some, None, Ok, Err, Bool, true, nat_eq, ◌&&◌, if◌then◌else◌}
 use Rattle.hb_types.specs.declared.types.Ty.{Ty}
 use Rattle.hb_types.specs.declared.types.MethodTy.{MethodTy}
 use Rattle.hb_types.specs.Types as types
@@ -46,3 +46,12 @@ abbrev pub looks_of : Table → Types → ℕ → Option Body → Option MethodT
 looks_of t types class None m kinds = []
 looks_of t types class (Some b) None kinds = []
 looks_of t types class (Some b) (Some m) kinds = if takes m kinds then looks types (subject t class b m) else []
+
+-- there are a body and a type, the type takes the arguments, and this is true of the body at the type
+pub record Reaches (P : Subject → Type 0) (t : Table) (class : ℕ) (b : Option Body) (m : Option MethodTy) (kinds : List Ty) : Type 0 where
+  pub body : Body
+  pub declared : MethodTy
+  pub has_body : b ≡ Some body
+  pub has_type : m ≡ Some declared
+  pub fits : takes declared kinds ≡ true
+  pub holds : P (subject t class body declared)

@@ -1,4 +1,3 @@
-use Rattle.std.proofs.Common.{◌≡◌, []}
 use Rattle.hb_tables.proofs.PlainLemmas.{decides_here, look_stays}
 use Rattle.hb_tables.proofs.plain.PlainTables.decide.Goals as goal
 

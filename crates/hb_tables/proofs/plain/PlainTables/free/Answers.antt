@@ -1,7 +1,7 @@
 use Rattle.std.proofs.Common.{◌≡◌, sym, ap, subst, arith}
 use Rattle.hb_tables.specs.History.{spot, times}
 use Rattle.hb_tables.specs.Plain.{Tables}
-use Rattle.hb_tables.proofs.PlainLemmas.{Freed, free_tables}
+use Rattle.hb_tables.proofs.PlainLemmas.{free_tables}
 use Rattle.hb_tables.proofs.plain.PlainTables.free.Goals as goal
 
 pub overflow_sub-owed : goal.overflow_sub-owed

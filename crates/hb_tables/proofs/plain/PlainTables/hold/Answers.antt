@@ -2,7 +2,7 @@ use Rattle.std.proofs.Common.{◌≡◌, ◌<◌, length, sym, ap, subst, arith}
 use Rattle.hb_tables.specs.declared.entry.TheConstants.{HOLDS_MAX}
 use Rattle.hb_tables.specs.History.{spot, times, of_caller}
 use Rattle.hb_tables.specs.Plain.{Tables}
-use Rattle.hb_tables.proofs.PlainLemmas.{hold_tables, matches_at, pins_low, adds_here}
+use Rattle.hb_tables.proofs.PlainLemmas.{hold_tables, matches_at, pins_low}
 use Rattle.hb_tables.proofs.plain.PlainTables.hold.Goals as goal
 
 pub invariant_of-self : goal.invariant_of-self

@@ -1,6 +1,4 @@
-use Rattle.std.proofs.Common.{◌≡◌, List, [], subst, sym, refl, arith}
-use Rattle.hb_tables.specs.declared.plain.KeyState.{KeyState}
-use Rattle.hb_tables.specs.Plain.{AreTables}
+use Rattle.std.proofs.Common.{refl, arith}
 use Rattle.hb_tables.proofs.PlainLemmas.{tables_none}
 use Rattle.hb_tables.proofs.plain.PlainTables.new.Goals as goal
 

@@ -1,5 +1,4 @@
-use Rattle.std.proofs.Common.{◌≡◌, ◌<◌, arith}
-use Rattle.hb_tables.specs.History.{spot}
+use Rattle.std.proofs.Common.{arith}
 use Rattle.hb_tables.proofs.PlainLemmas.{changes_low}
 use Rattle.hb_tables.proofs.plain.PlainTables.set_type.Goals as goal
 

@@ -1,6 +1,5 @@
-use Rattle.std.proofs.Common.{◌≡◌, sym, ap, subst, arith}
-use Rattle.hb_tables.specs.History.{Spot, spot, done, FitsAct, key_of}
-use Rattle.hb_tables.specs.Plain.{Tables, Matches}
+use Rattle.std.proofs.Common.{ap, arith}
+use Rattle.hb_tables.specs.Plain.{Tables}
 use Rattle.hb_tables.proofs.PlainLemmas.{written_tables}
 use Rattle.hb_tables.proofs.plain.PlainTables.write.Goals as goal
 
