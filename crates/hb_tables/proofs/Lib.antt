@@ -9,3 +9,5 @@ pub mod SumLemmas
 pub mod PlainLemmas
 pub mod NameLemmas
 pub mod VerdictLemmas
+pub mod ChangeLemmas
+pub mod HoldingLemmas

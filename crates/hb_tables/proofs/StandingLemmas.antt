@@ -10,11 +10,11 @@ use Rattle.hb_tables.specs.Standing.{Stand, all_but, stand_done, standing_from, 
 use Rattle.hb_tables.proofs.FrameLemmas.{times_other}
 use Rattle.hb_tables.proofs.AddingLemmas.{none_without}
 
-count_last : (k : ℕ) (hs : List Stand) (h : Stand) → count_of k (hs ++ h ∷ []) ≡ count_of k hs + cond (eqb k h.key) 1 0
+pub count_last : (k : ℕ) (hs : List Stand) (h : Stand) → count_of k (hs ++ h ∷ []) ≡ count_of k hs + cond (eqb k h.key) 1 0
 count_last k [] h = omega arith
 count_last k (x ∷ hs) h = let r = count_last k hs h in omega (arith, r)
 
-count_but : (k j : ℕ) (hs : List Stand) → count_of k (all_but j hs) ≡ cond (eqb k j) 0 (count_of k hs)
+pub count_but : (k j : ℕ) (hs : List Stand) → count_of k (all_but j hs) ≡ cond (eqb k j) 0 (count_of k hs)
 count_but k j [] = go (eqb k j)
   where
     go : (b : Bool) → (let z : ℕ = 0 in z) ≡ cond b 0 0
