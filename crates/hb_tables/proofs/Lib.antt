@@ -1,0 +1,13 @@
+pub mod CallLemmas
+pub mod HistoryLemmas
+pub mod AddingLemmas
+pub mod FrameLemmas
+pub mod StandingLemmas
+pub mod FrontLemmas
+pub mod RowLemmas
+pub mod SumLemmas
+pub mod PlainLemmas
+pub mod NameLemmas
+pub mod VerdictLemmas
+pub mod ChangeLemmas
+pub mod HoldingLemmas

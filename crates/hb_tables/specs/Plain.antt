@@ -1,0 +1,34 @@
+-- The plain tables: what is seen of them, and what their fields keep.
+use Rattle.std.specs.Prelude.{◌≡◌, ℕ, zero, suc, ◌+◌, ◌≤◌, List, [], length, slice_get, Some}
+use Rattle.hb_tables.specs.declared.entry.TheConstants.{NAMES_MAX, VERSIONS_MAX}
+use Rattle.hb_tables.specs.declared.entry.Entry.{Entry}
+use Rattle.hb_tables.specs.declared.plain.KeyState.{KeyState}
+use Rattle.hb_tables.specs.History.{Spot, spot, journal, IsLegal}
+
+-- the history, the limit of changes, and for how many more entries there is room
+pub record Tables : Type 0 where
+  pub log : List Entry
+  pub limit : ℕ
+  pub spare : ℕ
+
+-- what is kept of a key is its state
+abbrev pub Matches : KeyState → Spot → Type 0
+Matches s x = (s.ty ≡ x.ty) × (s.changes ≡ x.changes) × (s.body ≡ x.body) × (s.redefs ≡ x.redefs) × (s.pins ≡ length x.calls)
+
+-- f 0 to f (n - 1), added up
+unfoldable pub total : ℕ → (ℕ → ℕ) → ℕ
+total zero f = 0
+total (suc n) f = total n f + f n
+
+-- the holds that stand, over all keys
+abbrev pub holds_in : List Entry → ℕ
+holds_in log = total NAMES_MAX (λ k. length (spot k log).calls)
+
+-- The history is legal, each key's state is kept, and so is the number of holds that stand.
+pub record AreTables (limit : ℕ) (log : List Entry) (states : List KeyState) (owed : ℕ) : Type 0 where
+  pub low : limit ≤ VERSIONS_MAX
+  pub legal : IsLegal limit log
+  pub callers : (c : ℕ) → 256 ≤ c → journal c log ≡ []
+  pub wide : length states ≡ NAMES_MAX
+  pub match : (k : ℕ) (s : KeyState) → slice_get states k ≡ Some s → Matches s (spot k log)
+  pub owed_is : owed ≡ holds_in log

@@ -1,0 +1,108 @@
+//! What a caller did to the tables.
+
+use hb_deriv::ill::Ill;
+use hb_types::ids::{BodySite, CallNo, CallerId, KeyId, TypeSite};
+use hb_types::types::{PARAMS_MAX, Ty};
+
+/// How many names of methods one run may have.
+pub const NAMES_MAX: u16 = 1_024;
+
+/// How many calls of one caller hold a key at once: those of the frames, and the one that is being decided.
+pub const HOLDS_MAX: usize = 4_097;
+
+/// Each type site is below this number.
+pub const TYPES_MAX: u16 = 65_534;
+
+/// Each body site is below this number.
+pub const BODIES_MAX: u16 = 65_535;
+
+/// The greatest limit of changes.
+pub const VERSIONS_MAX: u32 = 16_777_215;
+
+/// Where the derivation comes from by which a body is entered.
+#[derive(Clone, Copy, Debug, PartialEq, Eq)]
+pub enum By {
+    /// The caller's own cache.
+    Own,
+    /// Another caller.
+    Shared,
+    /// A check of this call.
+    Fresh,
+}
+
+/// What becomes of a call.
+#[derive(Clone, Copy, Debug, PartialEq, Eq)]
+pub enum Verdict {
+    Enter(By),
+    /// The method has no definition.
+    NoBody,
+    /// The method has no type.
+    NoType,
+    /// The type does not take these arguments.
+    BadArgs,
+    IllTyped(Ill),
+}
+
+/// The kinds of the arguments of a call, each the least type of its value.
+#[derive(Clone, Copy, Debug, PartialEq, Eq)]
+pub struct ArgKinds {
+    /// How many arguments there are.
+    pub count: u8,
+    /// The kinds in their order, filled with `Nil` past the count.
+    pub kinds: [Ty; PARAMS_MAX],
+}
+
+/// What is done at one step. A key is one of the run's names of methods.
+#[derive(Clone, Copy)]
+pub enum Act {
+    /// The call `q` begins to hold the key, and finds this type and this number of changes.
+    Hold {
+        q: CallNo,
+        key: KeyId,
+        ty: Option<TypeSite>,
+        changes: u32,
+    },
+    /// The call `q` holds the key no longer.
+    Free {
+        q: CallNo,
+        key: KeyId,
+    },
+    /// The key gets the type of the site.
+    Retype {
+        key: KeyId,
+        site: TypeSite,
+    },
+    /// It would get one, but so many calls hold it.
+    Busy {
+        key: KeyId,
+        pins: u32,
+    },
+    /// It would get one, but its type was changed as often as may be.
+    WornType {
+        key: KeyId,
+    },
+    /// The key gets the definition of the site.
+    Define {
+        key: KeyId,
+        site: BodySite,
+    },
+    /// It would get one, but its definition was changed as often as may be.
+    WornDef {
+        key: KeyId,
+    },
+    /// The call `q` of the key, with its definition and with arguments of these kinds, is decided.
+    Call {
+        q: CallNo,
+        key: KeyId,
+        site: Option<BodySite>,
+        args: ArgKinds,
+        verdict: Verdict,
+    },
+}
+
+/// An act and who did it.
+#[derive(Clone, Copy)]
+pub struct Entry {
+    pub caller: CallerId,
+    pub act: Act,
+}
