@@ -1,12 +1,14 @@
 -- Places of names: which name stands at a place, and what a longer list changes.
-use Rattle.std.proofs.Common.{◌≡◌, ℕ, zero, suc, ◌<◌, ◌≤◌, Bool, true, false, if◌then◌else◌, List, [], ◌∷◌, ◌++◌, length, Option, Some, None, refl, sym, ap, ◌∙◌, arith, nat_eq}
+use mathlib.Core.List.{IsPrefix}
+use Rattle.std.proofs.lemmas.List.{append-nil}
+use Rattle.std.proofs.Common.{◌⊎◌, inl, inr, ◌≡◌, ℕ, zero, suc, ◌<◌, ◌≤◌, Bool, true, false, if◌then◌else◌, List, [], ◌∷◌, ◌++◌, length, Option, Some, None, refl, sym, ap, ◌∙◌, arith, nat_eq}
 use Rattle.std.specs.Prelude.{slice_get, option_map, is_some, bytes_eq}
 use Rattle.std.specs.Cmp.{IsEquivalence}
 use Rattle.std.specs.Cmp.Lexicographic.{same_text}
 use Rattle.std.proofs.lemmas.Bool.{eqb-true, and_parts}
 use Rattle.std.proofs.lemmas.Cmp.{nat_eq_equiv, nat_list_eq_equiv, on_equiv, and_equiv}
 use Rattle.std.proofs.lemmas.Option.{none-some}
-use Rattle.hb_names.specs.Names.{Name, same, place, with_name}
+use Rattle.hb_names.specs.Names.{Name, same, place, with_name, Differ}
 
 pub same-equiv : IsEquivalence same
 same-equiv = and_equiv (on_equiv (λ (n : Name). n.0) nat_eq_equiv) (on_equiv (λ (n : Name). n.1) nat_list_eq_equiv)
@@ -78,3 +80,51 @@ module _ (names : List Name) (name : Name) where
 
   pub with_name-new : place names name ≡ None → with_name names name ≡ names ++ name ∷ []
   with_name-new e = ap (λ o. if is_some o then names else names ++ name ∷ []) e
+
+pub place-one : (names : List Name) (name : Name) (k : ℕ) → Differ names → slice_get names k ≡ Some name → place names name ≡ Some k
+place-one names name k differ e =
+    let first = place-first names name k e in
+    first.1 ∙ ap Some (differ first.0 k name (place-at names name first.0 first.1) e)
+
+pub place-apart : (names : List Name) (a b : Name) (k : ℕ) → place names a ≡ Some k → place names b ≡ Some k → a ≡ b
+place-apart names a b k e f = let first = place-at names a k e in let second = place-at names b k f in cc
+
+pub place-longer : (names longer : List Name) (name : Name) (k : ℕ) → IsPrefix names longer → place names name ≡ Some k → place longer name ≡ Some k
+place-longer names longer name k begins e = ap (λ ns. place ns name) (sym begins.1) ∙ place-append names begins.0 name k e
+
+-- what stands in a list with one name more
+at-more : (names : List Name) (name other : Name) (j : ℕ) → slice_get (names ++ name ∷ []) j ≡ Some other → (slice_get names j ≡ Some other) ⊎ ((j ≡ length names) × (name ≡ other))
+at-more [] name other zero e = inr (refl, cc)
+at-more [] name other (suc j) e = absurd (none-some other e)
+at-more (n ∷ names) name other zero e = inl e
+at-more (n ∷ names) name other (suc j) e = elim (at-more names name other j e) [ inl there ↦ inl there | inr last ↦ inr (ap suc last.0, last.1) ]
+
+differ-more : (names : List Name) (name : Name) → place names name ≡ None → Differ names → Differ (names ++ name ∷ [])
+differ-more names name new differ i j other at_i at_j = by (at-more names name other i at_i) (at-more names name other j at_j)
+  where
+    nowhere : (k : ℕ) → slice_get names k ≡ Some other → name ≡ other → ⊥
+    nowhere k at same = let first = place-first names name k (at ∙ ap Some (sym same)) in none-some first.0 (sym new ∙ first.1)
+
+    by : (slice_get names i ≡ Some other) ⊎ ((i ≡ length names) × (name ≡ other)) → (slice_get names j ≡ Some other) ⊎ ((j ≡ length names) × (name ≡ other)) → i ≡ j
+    by (inl p) (inl q) = differ i j other p q
+    by (inl p) (inr q) = absurd (nowhere i p q.1)
+    by (inr p) (inl q) = absurd (nowhere j q p.1)
+    by (inr p) (inr q) = p.0 ∙ sym q.0
+
+-- the names with this one are the same, or one more
+with_name-cases : (P : List Name → Type 0) (names : List Name) (name : Name) → ((k : ℕ) → place names name ≡ Some k → P names) → (place names name ≡ None → P (names ++ name ∷ [])) → P (with_name names name)
+with_name-cases P names name there new = by (place names name) refl
+  where
+    by : (o : Option ℕ) → place names name ≡ o → P (if is_some o then names else names ++ name ∷ [])
+    by None e = new e
+    by (Some k) e = there k e
+
+module _ (names : List Name) (name : Name) where
+  pub with_name-place : (k : ℕ) × (place (with_name names name) name ≡ Some k)
+  with_name-place = with_name-cases (λ ns. (k : ℕ) × (place ns name ≡ Some k)) names name (λ k e. (k, e)) (λ new. (length names, place-last names name new))
+
+  pub with_name-begins : IsPrefix names (with_name names name)
+  with_name-begins = with_name-cases (IsPrefix names) names name (λ k e. ([], append-nil names)) (λ new. (name ∷ [], refl))
+
+  pub with_name-differ : Differ names → Differ (with_name names name)
+  with_name-differ differ = with_name-cases Differ names name (λ k e. differ) (λ new. differ-more names name new differ)

@@ -82,7 +82,7 @@ impl NameList {
         ensures differ { Differ self.new }
         ensures few { length self.new ≤ NAMES_MAX }
         ensures key { IfOk result (λ key. place self.new (class.0, name.now) ≡ Some key.0) }
-        ensures below { IfOk result (λ key. key.0 < NAMES_MAX) }
+        ensures below { IfOk result (λ key. key.0 < length self.new) }
         ensures names { OnOk result (self.new ≡ with_name self.old (class.0, name.now)) }
         ensures full { IsErrOf result NameFail.Full ↔ IsFull self.new (class.0, name.now) }
         ensures unknown { OnErr result (place self.new (class.0, name.now) ≡ None) }
