@@ -11,3 +11,4 @@ pub mod NameLemmas
 pub mod VerdictLemmas
 pub mod ChangeLemmas
 pub mod HoldingLemmas
+pub mod DeskLemmas

@@ -147,7 +147,7 @@ written_tables limit log states owed c act key next w low at seen seen_is most m
     let calls : length (done c (spot key.0 log) act).calls ≡ length (spot key.0 log).calls = subst (λ l. length (done c (spot key.0 l) act).calls ≡ length (spot key.0 l).calls) (sym seen_is) calls in
     subst (λ j. AreTables limit (log ++ entry c act ∷ []) (set states j next) owed) at.1
     (tables_more limit log states owed c act next owed w low (subst (λ j. j < NAMES_MAX) k at.0) (subst (λ j. FitsAct limit c (spot j log) act) k fits) (subst (λ j. Matches next (done c (spot j log) act)) k same)
-        (subst (λ j. owed + length (spot j log).calls ≡ owed + length (done c (spot j log) act).calls) k (omega (arith, calls))))
+    (subst (λ j. owed + length (spot j log).calls ≡ owed + length (done c (spot j log) act).calls) k (omega (arith, calls))))
 
 -- a call that is decided behind what was known
 pub decides_here : (c : ℕ) (old new : List Entry) (q : CallNo) (key owner : KeyId) (look : Look) (args : ArgKinds) (v : Verdict) → new ≡ old ++ entry c (Call q key look.site args v) ∷ [] → IsLookAt owner.0 look old

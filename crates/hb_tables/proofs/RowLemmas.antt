@@ -8,12 +8,14 @@ use Rattle.hb_deriv.specs.Judge.{Key}
 use Rattle.hb_deriv.specs.Events.{SameAt}
 use Rattle.hb_deriv.specs.Programs.{sites_of}
 use Rattle.hb_tables.specs.declared.entry.Entry.{Entry}
+use Rattle.hb_tables.specs.declared.entry.Act.{Act}
+use Rattle.hb_tables.specs.declared.entry.Act.TheVariants.{Hold, Free, Retype, Busy, WornType, Define, WornDef, Call}
 use Rattle.hb_tables.specs.declared.entry.Verdict.{Verdict}
 use Rattle.hb_tables.specs.Names.{Pair, pair_of}
 use Rattle.hb_tables.specs.Verdicts.{looks_of}
 use Rattle.hb_tables.proofs.NameLemmas.{place_longer}
 use Rattle.hb_tables.proofs.VerdictLemmas.{verdict_same}
-use Rattle.hb_tables.specs.Rows.{site_in, body_at, type_at, types_in, type_of_key, needs_in, HoldsPair, IsDecided}
+use Rattle.hb_tables.specs.Rows.{site_in, body_at, type_at, types_in, type_of_key, needs_in, HoldsPair, IsDecided, kinds_of, FitsCall, HasCallRows}
 
 pair_longer : (names more : List Pair) (log : List Entry) (x : ℕ × ℕ) (p : Pair) → HoldsPair names log x p → HoldsPair (names ++ more) log x p
 pair_longer names more log x p h = (h.0, place_longer names more p h.0 h.1, h.2)
@@ -40,3 +42,17 @@ row_longer t names more log x key site kinds v d =
       held = λ p i. pair_longer names more log x p (d.held p (subst (λ (l : List Pair). Contains l p) (sym same) i));
       only = λ j h. let o = d.only j h in (o.0, subst (λ (l : List Pair). Contains l o.0) same o.1, place_longer names more o.0 j o.2);
     }
+
+fits_longer : (t : Table) (names more : List Pair) (c : ℕ) (log : List Entry) (a : Act) → FitsCall t names c log a → FitsCall t (names ++ more) c log a
+fits_longer t names more c log (Call q key site args v) d = row_longer t names more log (c, q.0) key.0 site (kinds_of args) v d
+fits_longer t names more c log (Hold q key ty changes) d = d
+fits_longer t names more c log (Free q key) d = d
+fits_longer t names more c log (Retype key site) d = d
+fits_longer t names more c log (Busy key pins) d = d
+fits_longer t names more c log (WornType key) d = d
+fits_longer t names more c log (Define key site) d = d
+fits_longer t names more c log (WornDef key) d = d
+
+-- and so do all Calls of a list
+pub rows_longer : (t : Table) (names more : List Pair) (log : List Entry) → HasCallRows t names log → HasCallRows t (names ++ more) log
+rows_longer t names more log rows before after e is = fits_longer t names more e.caller.0 before e.act (rows before after e is)

@@ -37,7 +37,6 @@ verdict_same t T U class None m kinds h = record { verdict = refl; keys = refl }
 verdict_same t T U class (Some b) None kinds h = record { verdict = refl; keys = refl }
 verdict_same t T U class (Some b) (Some m) kinds h = if_takes t T U class b m (takes m kinds) h
 
-
 entered : (types : Types) (s : Subject) (r : judgement.Verdict Typed) → judge_body types s ≡ r → checked_verdict r ≡ verdict.Enter by.Fresh → IsJudged types s
 entered types s (Ok x) e h = body_judged types s x e
 entered types s (Err f) e h = absurd (cc h)

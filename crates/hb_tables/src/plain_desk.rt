@@ -66,3 +66,73 @@ impl Desk for PlainDesk<'_> {
             .decide(self.caller, q, key, owner, look, args, verdict)
     }
 }
+
+#[cfg(test)]
+mod tests {
+    use super::*;
+    use hb_types::types::Ty;
+    use std::test::Fail;
+
+    const KEY: KeyId = KeyId(3);
+
+    const CALL: CallNo = CallNo(1);
+
+    #[test]
+    fn a_held_type_is_not_changed(rt: HostRuntime) -> Result<(), Fail> {
+        let mut tables = PlainTables::new(rt.alloc(), 1)?;
+        let mut desk = tables.desk(CallerId(0));
+        desk.reserve(rt.alloc(), 8)?;
+        let held = desk.hold(CALL, KEY);
+        let busy = desk.set_type(KEY, TypeSite(5));
+        desk.free(CALL, KEY);
+        let done = desk.set_type(KEY, TypeSite(5));
+        let worn = desk.set_type(KEY, TypeSite(6));
+        let expected = Held {
+            ty: None,
+            changes: 0,
+        };
+        assert_eq!(rt; held, expected);
+        let rows = [
+            (busy, TypeAnswer::Busy { pins: 1 }),
+            (done, TypeAnswer::Done),
+            (worn, TypeAnswer::Worn),
+        ];
+        for (answer, expected) in rows {
+            assert_eq!(rt; answer, expected);
+        }
+        assert_eq!(rt; tables.history().len(), 5);
+        Ok(())
+    }
+
+    #[test]
+    fn a_newer_definition_is_told(rt: HostRuntime) -> Result<(), Fail> {
+        let mut tables = PlainTables::new(rt.alloc(), 2)?;
+        let mut desk = tables.desk(CallerId(0));
+        desk.reserve(rt.alloc(), 8)?;
+        desk.hold(CALL, KEY);
+        let first = desk.set_def(KEY, BodySite(4));
+        let look = desk.look(KEY);
+        let second = desk.set_def(KEY, BodySite(5));
+        let args = ArgKinds {
+            count: 0,
+            kinds: [Ty::Nil; 4],
+        };
+        let late = desk.decide(CALL, KEY, KEY, look, args, Verdict::NoType);
+        let third = desk.set_def(KEY, BodySite(6));
+        let seen = |site, changes| Look {
+            site: Some(BodySite(site)),
+            changes,
+        };
+        assert_eq!(rt; look, seen(4, 1));
+        assert_eq!(rt; late, Err(seen(5, 2)));
+        let rows = [
+            (first, DefAnswer::Done),
+            (second, DefAnswer::Done),
+            (third, DefAnswer::Worn),
+        ];
+        for (answer, expected) in rows {
+            assert_eq!(rt; answer, expected);
+        }
+        Ok(())
+    }
+}
