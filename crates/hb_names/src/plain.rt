@@ -93,8 +93,10 @@ mod tests {
         let mut names = PlainNames::new(rt.alloc());
         let count = NAMES_MAX as u16;
         for number in 0..count {
-            let given = names.key(rt.alloc(), ClassId(0), &number.to_be_bytes());
-            assert_eq!(rt; given, Ok(KeyId(number)));
+            assert_eq!(rt;
+                key_of(&mut names, rt.alloc(), 0, number),
+                Ok(KeyId(number))
+            );
         }
         let cases = [
             (0, count, Err(NameFail::Full)),
@@ -103,9 +105,18 @@ mod tests {
             (0, 0, Ok(KeyId(0))),
         ];
         for (class, number, want) in cases {
-            let given = names.key(rt.alloc(), ClassId(class), &number.to_be_bytes());
+            let given = key_of(&mut names, rt.alloc(), class, number);
             assert_eq!(rt; given, want, "{class} {number}");
         }
         assert_eq!(rt; names.into_list().len(), NAMES_MAX);
+    }
+
+    fn key_of<N: Names>(
+        names: &mut N,
+        alloc: Global,
+        class: u16,
+        number: u16,
+    ) -> Result<KeyId, NameFail> {
+        names.key(alloc, ClassId(class), &number.to_be_bytes())
     }
 }
