@@ -21,7 +21,7 @@ use Rattle.hb_deriv.specs.declared.raw.Used.{Used}
 use Rattle.hb_deriv.specs.declared.raw.Derivation.{Derivation}
 use Rattle.hb_deriv.specs.Judge.{Key, Types, Typed, Verdict, ◌>>=◌, Subject, variables_of, has_count, ended, ill_at, judge, judge_body}
 use Rattle.hb_deriv.specs.Events.{events, events_body, fresh, same_key, has, looks}
-use Rattle.hb_deriv.specs.Derivation.{AgreesWith, Derives, Sites, content_of, key_of, steps_of}
+use Rattle.hb_deriv.specs.Derivation.{AgreesWith, Derives, Sites, content_of, key_of, steps_of, type_at}
 use Rattle.hb_deriv.specs.Programs.{IsFor, sites_of, subject_of}
 use Rattle.hb_deriv.proofs.KeyLemmas.{key_itself}
 use Rattle.hb_deriv.proofs.JudgementLemmas.{body_judged}
@@ -31,7 +31,7 @@ use Rattle.hb_check.specs.declared.bodies.Checked.TheVariants as checked
 use Rattle.hb_check.specs.declared.lookup.LookFail.{LookFail}
 use Rattle.hb_check.specs.declared.notes.Stop.{Stop}
 use Rattle.hb_check.specs.declared.notes.Stop.TheVariants as stop
-use Rattle.hb_check.specs.Asked.{Asked, Declared, Agrees, answer_of, key_asked, type_at, types_in}
+use Rattle.hb_check.specs.Asked.{Asked, Declared, Agrees, answer_of, key_asked, types_in}
 use Rattle.hb_check.specs.Runs.{State, IsOnce, IsSound, Ran, keys_asked, names_of}
 use Rattle.hb_check.specs.Checked.{Checks}
 use Rattle.hb_check.specs.Checking.{Answers}

@@ -13,13 +13,13 @@ use Rattle.hb_deriv.specs.declared.raw.Used.{Used}
 use Rattle.hb_deriv.specs.declared.raw.Step.{Step}
 use Rattle.hb_deriv.specs.Judge.{Key, Types, Verdict}
 use Rattle.hb_deriv.specs.Events.{Events, Look, same_key, has, fresh}
-use Rattle.hb_deriv.specs.Derivation.{Sites, key_of}
+use Rattle.hb_deriv.specs.Derivation.{Sites, key_of, type_at}
 use Rattle.hb_deriv.proofs.KeyLemmas.{key_same}
 use Rattle.hb_check.specs.declared.lookup.LookFail.{LookFail}
 use Rattle.hb_check.specs.declared.lookup.LookFail.TheVariants as look
 use Rattle.hb_check.specs.declared.notes.Stop.{Stop}
 use Rattle.hb_check.specs.declared.notes.Stop.TheVariants as stop
-use Rattle.hb_check.specs.Asked.{Asked, Refusal, Declared, Agrees, asked, refusal, answer_of, key_asked, type_at}
+use Rattle.hb_check.specs.Asked.{Asked, Refusal, Declared, Agrees, asked, refusal, answer_of, key_asked}
 use Rattle.hb_check.specs.Looking.{IsVerdict, site_among, with_type}
 use Rattle.hb_check.specs.Runs.{State, keys_asked, keys_in, names_of, IsOnce, IsSound, HasLogged, HasFront, Comes, Leaves, Ran, Runs, with_variables}
 use Rattle.hb_check.proofs.RunLemmas.{within_left}

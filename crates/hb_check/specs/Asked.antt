@@ -4,10 +4,9 @@ use Rattle.std.specs.Option.{option_map}
 use Rattle.hb_types.specs.declared.ids.ClassId.{ClassId}
 use Rattle.hb_types.specs.declared.ids.NameId.{NameId}
 use Rattle.hb_types.specs.declared.ids.TypeSite.{TypeSite}
-use Rattle.hb_types.specs.declared.types.MethodTy.{MethodTy}
 use Rattle.hb_deriv.specs.declared.raw.Used.{Used}
 use Rattle.hb_deriv.specs.Judge.{Key, Types}
-use Rattle.hb_deriv.specs.Derivation.{Sites}
+use Rattle.hb_deriv.specs.Derivation.{Sites, type_at}
 use Rattle.hb_check.specs.declared.lookup.LookFail.{LookFail}
 
 -- the type of this method is declared at this site, or nowhere
@@ -46,11 +45,6 @@ Declared = Key → Option ℕ
 abbrev pub Agrees : List Asked → Declared → Type 0
 Agrees [] declared = Unit {0}
 Agrees (a ∷ answers) declared = (declared (key_asked a) ≡ a.site) × Agrees answers declared
-
--- the type at a site
-abbrev pub type_at : Sites → Option ℕ → Option MethodTy
-type_at sites None = None
-type_at sites (Some site) = sites site
 
 -- the types of a program that the table has
 abbrev pub types_in : Sites → Declared → Types

@@ -1,5 +1,5 @@
 -- What a derivation says, and what it is to derive a body.
-use Rattle.std.specs.Prelude.{◌≡◌, ℕ, List, [], ◌∷◌, map, Option, None, if◌then◌else◌}
+use Rattle.std.specs.Prelude.{◌≡◌, ℕ, List, [], ◌∷◌, map, Option, Some, None, if◌then◌else◌}
 use Rattle.hb_types.specs.declared.types.Ty.{Ty}
 use Rattle.hb_types.specs.declared.types.MethodTy.{MethodTy}
 use Rattle.hb_deriv.specs.declared.raw.Used.{Used}
@@ -31,6 +31,11 @@ IsCopy d copy = content_of copy ≡ content_of d
 -- the types that a program's `type`s and `type?`s give
 abbrev pub Sites : Type 0
 Sites = ℕ → Option MethodTy
+
+-- the type at a site, where there is a site
+abbrev pub type_at : Sites → Option ℕ → Option MethodTy
+type_at sites None = None
+type_at sites (Some site) = sites site
 
 abbrev pub key_of : Used → Key
 key_of u = (u.class.0, u.name.0)

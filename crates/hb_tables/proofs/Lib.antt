@@ -7,7 +7,6 @@ pub mod FrontLemmas
 pub mod RowLemmas
 pub mod SumLemmas
 pub mod PlainLemmas
-pub mod NameLemmas
 pub mod VerdictLemmas
 pub mod ChangeLemmas
 pub mod HoldingLemmas

@@ -5,7 +5,8 @@ use Rattle.std.proofs.lemmas.Option.{slice_get_read}
 use mathlib.Core.List.{IsPrefix}
 use Rattle.hb_types.specs.declared.ids.CallNo.{CallNo}
 use Rattle.hb_types.specs.declared.ids.KeyId.{KeyId}
-use Rattle.hb_tables.specs.declared.entry.TheConstants.{NAMES_MAX, HOLDS_MAX, VERSIONS_MAX}
+use Rattle.hb_names.specs.declared.names.TheConstants.{NAMES_MAX}
+use Rattle.hb_tables.specs.declared.entry.TheConstants.{HOLDS_MAX, VERSIONS_MAX}
 use Rattle.hb_tables.specs.declared.entry.Entry.{Entry}
 use Rattle.hb_tables.specs.declared.entry.Act.{Act}
 use Rattle.hb_tables.specs.declared.entry.Act.TheVariants.{Hold, Free, Call}

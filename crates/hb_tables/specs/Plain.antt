@@ -1,6 +1,7 @@
 -- The plain tables: what is seen of them, and what their fields keep.
 use Rattle.std.specs.Prelude.{◌≡◌, ℕ, zero, suc, ◌+◌, ◌≤◌, List, [], length, slice_get, Some}
-use Rattle.hb_tables.specs.declared.entry.TheConstants.{NAMES_MAX, VERSIONS_MAX}
+use Rattle.hb_names.specs.declared.names.TheConstants.{NAMES_MAX}
+use Rattle.hb_tables.specs.declared.entry.TheConstants.{VERSIONS_MAX}
 use Rattle.hb_tables.specs.declared.entry.Entry.{Entry}
 use Rattle.hb_tables.specs.declared.plain.KeyState.{KeyState}
 use Rattle.hb_tables.specs.History.{Spot, spot, journal, IsLegal}

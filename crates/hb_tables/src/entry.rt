@@ -4,9 +4,6 @@ use hb_deriv::ill::Ill;
 use hb_types::ids::{BodySite, CallNo, CallerId, KeyId, TypeSite};
 use hb_types::types::{PARAMS_MAX, Ty};
 
-/// How many names of methods one run may have.
-pub const NAMES_MAX: u16 = 1_024;
-
 /// How many calls of one caller hold a key at once: those of the frames, and the one that is being decided.
 pub const HOLDS_MAX: usize = 4_097;
 

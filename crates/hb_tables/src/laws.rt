@@ -1,6 +1,6 @@
 //! What is true of histories, and of the verdicts in them.
 
-ghost use Rattle.std.specs.Prelude.{◌≡◌, ◌≤◌, ◌↔◌, ℕ, List, ◌∷◌, ◌++◌, length, Option, Some, None, slice_get};
+ghost use Rattle.std.specs.Prelude.{◌≡◌, ◌≤◌, ◌↔◌, ℕ, List, ◌∷◌, ◌++◌, length, Option, None};
 ghost use Rattle.std.specs.List.{last_or};
 ghost use mathlib.Core.List.{IsPrefix};
 ghost use Rattle.hb_types.specs.declared.ids.BodySite.{BodySite};
@@ -26,7 +26,7 @@ ghost use Rattle.hb_tables.specs.Changes.{types_given, bodies_given};
 ghost use Rattle.hb_tables.specs.Frames.{acts, StaysLive, KeepsHold};
 ghost use Rattle.hb_tables.specs.Fronts.{HasFront};
 ghost use Rattle.hb_tables.specs.Holdings.{HoldsSince};
-ghost use Rattle.hb_tables.specs.Names.{Pair, place};
+ghost use Rattle.hb_names.specs.Names.{Name};
 ghost use Rattle.hb_tables.specs.Standing.{standing, count_of};
 ghost use Rattle.hb_tables.specs.Verdicts.{verdict_of, looks_of, Reaches};
 ghost use Rattle.hb_tables.specs.Rows.{IsDecided, FitsCall, HasCallRows};
@@ -69,8 +69,8 @@ pub fn legal_lists_stay_in_bounds()
 /// A beginning of a legal list is legal, and its calls are decided as their rows say. Where this holds of each caller's calls in its front, it holds in the whole list.
 pub fn fronts_make_the_history()
     ensures legal { (limit : ℕ) (xs ys : List Entry) → IsPrefix xs ys → IsLegal limit ys → IsLegal limit xs }
-    ensures calls { (t : Table) (names : List Pair) (xs ys : List Entry) → IsPrefix xs ys → HasCallRows t names ys → HasCallRows t names xs }
-    ensures whole { (t : Table) (names : List Pair) (log : List Entry) → ((c : ℕ) → HasFront (λ before e. FitsCall t names e.caller.0 before e.act) log c) → HasCallRows t names log }
+    ensures calls { (t : Table) (names : List Name) (xs ys : List Entry) → IsPrefix xs ys → HasCallRows t names ys → HasCallRows t names xs }
+    ensures whole { (t : Table) (names : List Name) (log : List Entry) → ((c : ℕ) → HasFront (λ before e. FitsCall t names e.caller.0 before e.act) log c) → HasCallRows t names log }
 {}
 
 /// A verdict enters a body exactly where the body is judged, and tells a fault exactly where the body has it.
@@ -89,14 +89,7 @@ pub fn verdict_rests_on_its_looks()
 
 /// A call that is decided as its row says for a list of names is so for each longer list.
 pub fn calls_fit_longer_lists()
-    ensures one { (t : Table) (names more : List Pair) (log : List Entry) (x : ℕ × ℕ) (key : ℕ) (site : Option BodySite) (kinds : List Ty) (v : Verdict)
+    ensures one { (t : Table) (names more : List Name) (log : List Entry) (x : ℕ × ℕ) (key : ℕ) (site : Option BodySite) (kinds : List Ty) (v : Verdict)
         → IsDecided t names log x key site kinds v → IsDecided t (names ++ more) log x key site kinds v }
-    ensures all { (t : Table) (names more : List Pair) (log : List Entry) → HasCallRows t names log → HasCallRows t (names ++ more) log }
-{}
-
-/// The key of a pair is its first place among the names, so no other pair has it, and a longer list of names keeps it.
-pub fn keys_are_first_places()
-    ensures there { (names : List Pair) (p : Pair) (k : ℕ) → place names p ≡ Some k → slice_get names k ≡ Some p }
-    ensures first { (names : List Pair) (p : Pair) (j : ℕ) → slice_get names j ≡ Some p → (k : ℕ) × (place names p ≡ Some k) × (k ≤ j) }
-    ensures longer { (names more : List Pair) (p : Pair) (k : ℕ) → place names p ≡ Some k → place (names ++ more) p ≡ Some k }
+    ensures all { (t : Table) (names more : List Name) (log : List Entry) → HasCallRows t names log → HasCallRows t (names ++ more) log }
 {}

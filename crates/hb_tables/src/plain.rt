@@ -9,10 +9,9 @@ ghost use Rattle.hb_tables.specs.Answers.{TypeAdds, DefAdds, IsLookAt, Decides};
 ghost use Rattle.hb_tables.specs.Plain.{Matches};
 
 use crate::desk::{DefAnswer, Held, Look, TypeAnswer};
-use crate::entry::{
-    Act, ArgKinds, BODIES_MAX, Entry, HOLDS_MAX, NAMES_MAX, TYPES_MAX, VERSIONS_MAX, Verdict,
-};
+use crate::entry::{Act, ArgKinds, BODIES_MAX, Entry, HOLDS_MAX, TYPES_MAX, VERSIONS_MAX, Verdict};
 use crate::plain_desk::PlainDesk;
+use hb_names::NAMES_MAX;
 use hb_types::ids::{BodySite, CallNo, CallerId, KeyId, TypeSite};
 use std::alloc::{AllocError, Global};
 use std::marker::Model;
@@ -68,7 +67,7 @@ impl PlainTables {
     {
         Ok(PlainTables {
             history: Vec::new(alloc),
-            states: vec![in alloc; BLANK; NAMES_MAX as usize]?,
+            states: vec![in alloc; BLANK; NAMES_MAX]?,
             owed: 0,
             versions,
         })
