@@ -1,5 +1,5 @@
 -- The row of a Call depends on the needed methods alone, and holds for longer lists of names.
-use Rattle.std.proofs.Common.{◌≡◌, ℕ, suc, List, [], ◌∷◌, ◌++◌, Option, sym, refl, ap, ◌∙◌, subst, arith}
+use Rattle.std.proofs.Common.{◌≡◌, ℕ, suc, List, [], ◌∷◌, ◌++◌, Option, Some, sym, refl, ap, ◌∙◌, subst, arith}
 use Rattle.std.specs.Prelude.{map, Contains}
 use Rattle.hb_types.specs.declared.types.Ty.{Ty}
 use Rattle.hb_types.specs.declared.ids.BodySite.{BodySite}
@@ -11,7 +11,7 @@ use Rattle.hb_tables.specs.declared.entry.Entry.{Entry}
 use Rattle.hb_tables.specs.declared.entry.Act.{Act}
 use Rattle.hb_tables.specs.declared.entry.Act.TheVariants.{Hold, Free, Retype, Busy, WornType, Define, WornDef, Call}
 use Rattle.hb_tables.specs.declared.entry.Verdict.{Verdict}
-use Rattle.hb_tables.specs.Names.{Pair, pair_of}
+use Rattle.hb_tables.specs.Names.{Pair, pair_of, key_in}
 use Rattle.hb_tables.specs.Verdicts.{looks_of}
 use Rattle.hb_tables.proofs.NameLemmas.{place_longer}
 use Rattle.hb_tables.proofs.VerdictLemmas.{verdict_same}
@@ -19,6 +19,10 @@ use Rattle.hb_tables.specs.Rows.{site_in, body_at, type_at, types_in, type_of_ke
 
 pair_longer : (names more : List Pair) (log : List Entry) (x : ℕ × ℕ) (p : Pair) → HoldsPair names log x p → HoldsPair (names ++ more) log x p
 pair_longer names more log x p h = (h.0, place_longer names more p h.0 h.1, h.2)
+
+-- a method whose pair has a key has that key's type
+pub key_type : (t : Table) (names : List Pair) (log : List Entry) (k : Key) (j : ℕ) → key_in t names k ≡ Some j → types_in t names log k ≡ type_of_key t log j
+key_type t names log k j is = ap (λ o. type_at (sites_of t) (site_in log o)) is
 
 -- a list of names and a longer one give held keys the same types
 types_longer : (t : Table) (names more : List Pair) (log : List Entry) (x : ℕ × ℕ) (ks : List Key) → ((p : Pair) → Contains (map (pair_of t) ks) p → HoldsPair names log x p) → SameAt (types_in t names log) (types_in t (names ++ more) log) ks

@@ -135,4 +135,23 @@ mod tests {
         }
         Ok(())
     }
+
+    #[test]
+    fn a_call_is_decided(rt: HostRuntime) -> Result<(), Fail> {
+        let mut tables = PlainTables::new(rt.alloc(), 1)?;
+        let mut desk = tables.desk(CallerId(2));
+        assert_eq!(rt; desk.caller(), CallerId(2));
+        desk.reserve(rt.alloc(), 3)?;
+        desk.hold(CALL, KEY);
+        let look = desk.look(KEY);
+        let args = ArgKinds {
+            count: 1,
+            kinds: [Ty::Int, Ty::Nil, Ty::Nil, Ty::Nil],
+        };
+        let decided = desk.decide(CALL, KEY, KEY, look, args, Verdict::NoBody);
+        desk.free(CALL, KEY);
+        assert_eq!(rt; decided, Ok(()));
+        assert_eq!(rt; tables.history().len(), 3);
+        Ok(())
+    }
 }
