@@ -1,6 +1,7 @@
 //! One caller's door to plain tables.
 
-ghost use Rattle.std.specs.Prelude.{◌<◌};
+ghost use Rattle.std.specs.Prelude.{◌≡◌, ◌<◌, ◌≤◌};
+ghost use Rattle.hb_tables.specs.Answers.{DefAdds};
 
 use crate::desk::{DefAnswer, Desk, Held, Look, TypeAnswer};
 use crate::entry::{ArgKinds, Verdict};
@@ -152,6 +153,33 @@ mod tests {
         desk.free(CALL, KEY);
         assert_eq!(rt; decided, Ok(()));
         assert_eq!(rt; tables.history().len(), 3);
+        Ok(())
+    }
+
+    // A caller that knows no more of its desk than the trait says.
+    fn set<D: Desk>(desk: &mut D) -> DefAnswer
+        requires { 1 ≤ D.spare desk.old }
+        ensures entry { DefAdds (D.fixed desk.old).caller (D.front desk.old) (D.front desk.new) KEY (record { 0 = 4 }) result }
+        ensures fixed { D.fixed desk.new ≡ D.fixed desk.old }
+    {
+        desk.set_def(KEY, BodySite(4))
+    }
+
+    // Behind the desk the tables are what it knew last.
+    fn set_plain(tables: &mut PlainTables) -> DefAnswer
+        requires { 1 ≤ tables.old.spare }
+        ensures { DefAdds 0 tables.old.log tables.new.log KEY (record { 0 = 4 }) result }
+    {
+        let mut desk = tables.desk(CallerId(0));
+        set(&mut desk)
+    }
+
+    #[test]
+    fn the_tables_end_as_the_desk_knew_them(rt: HostRuntime) -> Result<(), Fail> {
+        let mut tables = PlainTables::new(rt.alloc(), 1)?;
+        tables.reserve(1)?;
+        assert_eq!(rt; set_plain(&mut tables), DefAnswer::Done);
+        assert_eq!(rt; tables.history().len(), 1);
         Ok(())
     }
 }
