@@ -81,7 +81,7 @@ but_same n (y ∷ ys) =
 -- callers below n, with at most m calls each
 pub at_most : (n m : ℕ) (ys : List (ℕ × ℕ)) → ((c : ℕ) → n ≤ c → of_caller c ys ≡ []) → ((c : ℕ) → length (of_caller c ys) ≤ m) → length ys ≤ n * m
 at_most zero m [] none few = omega arith
-at_most zero m (y ∷ ys) none few = let h = none y.0 (omega arith) in absurd (let e = eq-eqb y.0 y.0 refl in cc (e, rw e at h))
+at_most zero m (y ∷ ys) none few = let h = none y.0 (omega arith) in absurd (let e = eq-eqb y.0 y.0 refl in cc (rw e at h))
 at_most (suc n) m ys none few =
     let there : (c : ℕ) → n ≤ c → of_caller c (but n ys) ≡ [] = λ c le. dite (ℕ_discrete c n) (λ is. subst (λ d. of_caller d (but n ys) ≡ []) (sym is) (but_same n ys)) (λ ne. but_other c n ys ne ∙ none c (omega arith)) in
     let less : (c : ℕ) → length (of_caller c (but n ys)) ≤ m = λ c. dite (ℕ_discrete c n) (λ is. let z : length (of_caller c (but n ys)) ≡ 0 = subst (λ d. length (of_caller d (but n ys)) ≡ 0) (sym is) (ap length (but_same n ys)) in omega arith) (λ ne. let z = ap length (but_other c n ys ne) in let f = few c in omega arith) in

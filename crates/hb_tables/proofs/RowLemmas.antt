@@ -1,5 +1,5 @@
 -- The row of a Call depends on the needed methods alone, and holds for longer lists of names.
-use Rattle.std.proofs.Common.{◌≡◌, ℕ, suc, List, [], ◌∷◌, ◌++◌, Option, sym, refl, ap, ◌∙◌, subst, arith}
+use Rattle.std.proofs.Common.{◌≡◌, ℕ, suc, List, [], ◌∷◌, ◌++◌, Option, Some, sym, refl, ap, ◌∙◌, subst, arith}
 use Rattle.std.specs.Prelude.{map, Contains}
 use Rattle.hb_types.specs.declared.types.Ty.{Ty}
 use Rattle.hb_types.specs.declared.ids.BodySite.{BodySite}
@@ -14,13 +14,17 @@ use Rattle.hb_tables.specs.declared.entry.Act.TheVariants.{Hold, Free, Retype, B
 use Rattle.hb_tables.specs.declared.entry.Verdict.{Verdict}
 use Rattle.hb_names.specs.Names.{Name}
 use Rattle.hb_names.proofs.NameLemmas.{place-append}
-use Rattle.hb_tables.specs.Names.{name_of}
+use Rattle.hb_tables.specs.Names.{name_of, key_in}
 use Rattle.hb_tables.specs.Verdicts.{looks_of}
 use Rattle.hb_tables.proofs.VerdictLemmas.{verdict_same}
 use Rattle.hb_tables.specs.Rows.{site_in, body_at, types_in, type_of_key, needs_in, HoldsName, IsDecided, kinds_of, FitsCall, HasCallRows}
 
 name_longer : (names more : List Name) (log : List Entry) (x : ℕ × ℕ) (p : Name) → HoldsName names log x p → HoldsName (names ++ more) log x p
 name_longer names more log x p h = (h.0, place-append names more p h.0 h.1, h.2)
+
+-- a method whose name has a key has that key's type
+pub key_type : (t : Table) (names : List Name) (log : List Entry) (k : Key) (j : ℕ) → key_in t names k ≡ Some j → types_in t names log k ≡ type_of_key t log j
+key_type t names log k j is = ap (λ o. type_at (sites_of t) (site_in log o)) is
 
 -- a list of names and a longer one give held keys the same types
 types_longer : (t : Table) (names more : List Name) (log : List Entry) (x : ℕ × ℕ) (ks : List Key) → ((p : Name) → Contains (map (name_of t) ks) p → HoldsName names log x p) → SameAt (types_in t names log) (types_in t (names ++ more) log) ks

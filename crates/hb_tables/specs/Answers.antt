@@ -21,6 +21,7 @@ pub record Fixed : Type 0 where
   pub limit : ℕ
   pub made_with : List ℕ
 
+-- what is known grows by the entry of this answer to a type that is to be set
 abbrev pub TypeAdds : ℕ → List Entry → List Entry → KeyId → TypeSite → TypeAnswer → Type 0
 TypeAdds c old new key site Done = Adds c old new (act.Retype key site)
 TypeAdds c old new key site (Busy pins) = Adds c old new (act.Busy key pins)
@@ -30,6 +31,7 @@ TypeAdds c old new key site Worn = Adds c old new (act.WornType key)
 abbrev pub IsLookAt : ℕ → Look → List Entry → Type 0
 IsLookAt k look log = (look.site ≡ (spot k log).body) × (look.changes ≡ (spot k log).redefs)
 
+-- what is known grows by the entry of this answer to a definition that is to be set
 abbrev pub DefAdds : ℕ → List Entry → List Entry → KeyId → BodySite → DefAnswer → Type 0
 DefAdds c old new key site defined.Done = Adds c old new (act.Define key site)
 DefAdds c old new key site defined.Worn = Adds c old new (act.WornDef key)

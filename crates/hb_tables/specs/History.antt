@@ -2,7 +2,8 @@
 use Rattle.std.specs.Prelude.{◌≡◌, ℕ, ◌+◌, ◌<◌, ◌≤◌, ◌==◌, ◌&&◌, Bool, cond, Option, Some, None, List, [], ◌∷◌, ◌++◌, length}
 use Rattle.hb_types.specs.declared.ids.TypeSite.{TypeSite}
 use Rattle.hb_types.specs.declared.ids.BodySite.{BodySite}
-use Rattle.hb_tables.specs.declared.entry.TheConstants.{HOLDS_MAX, TYPES_MAX, BODIES_MAX}
+use Rattle.hb_tree.specs.declared.limits.TheConstants.{TYPES_MAX}
+use Rattle.hb_tables.specs.declared.entry.TheConstants.{HOLDS_MAX, BODIES_MAX}
 use Rattle.hb_tables.specs.declared.entry.Entry.{Entry}
 use Rattle.hb_tables.specs.declared.entry.Act.{Act}
 use Rattle.hb_tables.specs.declared.entry.Act.TheVariants.{Hold, Free, Retype, Busy, WornType, Define, WornDef, Call}
@@ -15,6 +16,7 @@ pub record Spot : Type 0 where
   pub redefs : ℕ
   pub calls : List (ℕ × ℕ)
 
+-- before all entries
 abbrev pub blank : Spot
 blank = record { ty = None; changes = 0; body = None; redefs = 0; calls = [] }
 
@@ -36,6 +38,7 @@ abbrev pub of_caller : ℕ → List (ℕ × ℕ) → List (ℕ × ℕ)
 of_caller c [] = []
 of_caller c (y ∷ ys) = cond (c == y.0) (y ∷ of_caller c ys) (of_caller c ys)
 
+-- the key that an act is about
 abbrev pub key_of : Act → ℕ
 key_of (Hold q key ty changes) = key.0
 key_of (Free q key) = key.0
@@ -85,6 +88,7 @@ FitsAct limit c s (Define key site) = (s.redefs < limit) × (site.0 < BODIES_MAX
 FitsAct limit c s (WornDef key) = s.redefs ≡ limit
 FitsAct limit c s (Call q key site args verdict) = Unit {0}
 
+-- the entry fits the state of its key after those before it
 abbrev pub Fits : ℕ → List Entry → Entry → Type 0
 Fits limit log e = FitsAct limit e.caller.0 (spot (key_of e.act) log) e.act
 
@@ -96,6 +100,7 @@ Every F log = (before after : List Entry) (e : Entry) → log ≡ before ++ e �
 abbrev pub IsLegal : ℕ → List Entry → Type 0
 IsLegal limit log = Every (Fits limit) log
 
+-- what a caller does
 abbrev pub entry : ℕ → Act → Entry
 entry c act = record { caller = record { 0 = c }; act = act }
 
@@ -107,6 +112,7 @@ Adds c old new act = (between : List Entry) × (new ≡ (old ++ between) ++ entr
 abbrev pub Learns : ℕ → List Entry → List Entry → Type 0
 Learns c old new = (between : List Entry) × (new ≡ old ++ between) × (journal c between ≡ [])
 
+-- a site by its number plus one, and none by 0
 abbrev pub ty_code : Option TypeSite → ℕ
 ty_code None = 0
 ty_code (Some site) = site.0 + 1

@@ -7,8 +7,9 @@ ghost use Rattle.hb_tables.specs.declared.entry.Act.TheVariants.{Hold, Free};
 ghost use Rattle.hb_tables.specs.History.{spot, times, of_caller, IsLegal, Adds, Learns};
 ghost use Rattle.hb_tables.specs.Answers.{Fixed, TypeAdds, IsLookAt, DefAdds, Decides};
 
-use crate::entry::{ArgKinds, BODIES_MAX, HOLDS_MAX, TYPES_MAX, Verdict};
+use crate::entry::{ArgKinds, BODIES_MAX, HOLDS_MAX, Verdict};
 use hb_names::NAMES_MAX;
+use hb_tree::limits::TYPES_MAX;
 use hb_types::ids::{BodySite, CallNo, CallerId, KeyId, TypeSite};
 use std::alloc::{AllocError, Global};
 

@@ -7,11 +7,8 @@ use hb_types::types::{PARAMS_MAX, Ty};
 /// How many calls of one caller hold a key at once: those of the frames, and the one that is being decided.
 pub const HOLDS_MAX: usize = 4_097;
 
-/// Each type site is below this number.
-pub const TYPES_MAX: u16 = 65_534;
-
-/// Each body site is below this number.
-pub const BODIES_MAX: u16 = 65_535;
+/// Each body site is below this number, since a definition is a node.
+pub const BODIES_MAX: usize = hb_tree::limits::NODES_MAX;
 
 /// The greatest limit of changes.
 pub const VERSIONS_MAX: u32 = 16_777_215;

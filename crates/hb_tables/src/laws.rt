@@ -29,7 +29,7 @@ ghost use Rattle.hb_tables.specs.Holdings.{HoldsSince};
 ghost use Rattle.hb_names.specs.Names.{Name};
 ghost use Rattle.hb_tables.specs.Standing.{standing, count_of};
 ghost use Rattle.hb_tables.specs.Verdicts.{verdict_of, looks_of, Reaches};
-ghost use Rattle.hb_tables.specs.Rows.{IsDecided, FitsCall, HasCallRows};
+ghost use Rattle.hb_tables.specs.Rows.{IsDecided, FitsCall, HasCallRows, IsLegalFor};
 
 /// A key has the last type and the last definition that it was given, and its counts are the numbers of those that it was given.
 pub fn state_is_what_was_given()
@@ -91,5 +91,5 @@ pub fn verdict_rests_on_its_looks()
 pub fn calls_fit_longer_lists()
     ensures one { (t : Table) (names more : List Name) (log : List Entry) (x : ℕ × ℕ) (key : ℕ) (site : Option BodySite) (kinds : List Ty) (v : Verdict)
         → IsDecided t names log x key site kinds v → IsDecided t (names ++ more) log x key site kinds v }
-    ensures all { (t : Table) (names more : List Name) (log : List Entry) → HasCallRows t names log → HasCallRows t (names ++ more) log }
+    ensures all { (limit : ℕ) (t : Table) (names more : List Name) (log : List Entry) → IsLegalFor limit t names log → IsLegalFor limit t (names ++ more) log }
 {}

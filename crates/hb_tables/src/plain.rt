@@ -9,16 +9,17 @@ ghost use Rattle.hb_tables.specs.Answers.{TypeAdds, DefAdds, IsLookAt, Decides};
 ghost use Rattle.hb_tables.specs.Plain.{Matches};
 
 use crate::desk::{DefAnswer, Held, Look, TypeAnswer};
-use crate::entry::{Act, ArgKinds, BODIES_MAX, Entry, HOLDS_MAX, TYPES_MAX, VERSIONS_MAX, Verdict};
+use crate::entry::{Act, ArgKinds, BODIES_MAX, Entry, HOLDS_MAX, VERSIONS_MAX, Verdict};
 use crate::plain_desk::PlainDesk;
 use hb_names::NAMES_MAX;
+use hb_tree::limits::TYPES_MAX;
 use hb_types::ids::{BodySite, CallNo, CallerId, KeyId, TypeSite};
 use std::alloc::{AllocError, Global};
 use std::marker::Model;
 
 /// The state of a key.
 #[derive(Clone, Copy)]
-pub struct KeyState {
+struct KeyState {
     ty: Option<TypeSite>,
     /// How often the type was changed.
     changes: u32,

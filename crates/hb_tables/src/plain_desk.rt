@@ -1,6 +1,7 @@
 //! One caller's door to plain tables.
 
-ghost use Rattle.std.specs.Prelude.{◌<◌};
+ghost use Rattle.std.specs.Prelude.{◌≡◌, ◌<◌, ◌≤◌};
+ghost use Rattle.hb_tables.specs.Answers.{DefAdds};
 
 use crate::desk::{DefAnswer, Desk, Held, Look, TypeAnswer};
 use crate::entry::{ArgKinds, Verdict};
@@ -133,6 +134,52 @@ mod tests {
         for (answer, expected) in rows {
             assert_eq!(rt; answer, expected);
         }
+        Ok(())
+    }
+
+    #[test]
+    fn a_call_is_decided(rt: HostRuntime) -> Result<(), Fail> {
+        let mut tables = PlainTables::new(rt.alloc(), 1)?;
+        let mut desk = tables.desk(CallerId(2));
+        assert_eq!(rt; desk.caller(), CallerId(2));
+        desk.reserve(rt.alloc(), 3)?;
+        desk.hold(CALL, KEY);
+        let look = desk.look(KEY);
+        let args = ArgKinds {
+            count: 1,
+            kinds: [Ty::Int, Ty::Nil, Ty::Nil, Ty::Nil],
+        };
+        let decided = desk.decide(CALL, KEY, KEY, look, args, Verdict::NoBody);
+        desk.free(CALL, KEY);
+        assert_eq!(rt; decided, Ok(()));
+        assert_eq!(rt; tables.history().len(), 3);
+        Ok(())
+    }
+
+    // A caller that knows no more of its desk than the trait says.
+    fn set<D: Desk>(desk: &mut D) -> DefAnswer
+        requires { 1 ≤ D.spare desk.old }
+        ensures entry { DefAdds (D.fixed desk.old).caller (D.front desk.old) (D.front desk.new) KEY (record { 0 = 4 }) result }
+        ensures fixed { D.fixed desk.new ≡ D.fixed desk.old }
+    {
+        desk.set_def(KEY, BodySite(4))
+    }
+
+    // Behind the desk the tables are what it knew last.
+    fn set_plain(tables: &mut PlainTables) -> DefAnswer
+        requires { 1 ≤ tables.old.spare }
+        ensures { DefAdds 0 tables.old.log tables.new.log KEY (record { 0 = 4 }) result }
+    {
+        let mut desk = tables.desk(CallerId(0));
+        set(&mut desk)
+    }
+
+    #[test]
+    fn the_tables_end_as_the_desk_knew_them(rt: HostRuntime) -> Result<(), Fail> {
+        let mut tables = PlainTables::new(rt.alloc(), 1)?;
+        tables.reserve(1)?;
+        assert_eq!(rt; set_plain(&mut tables), DefAnswer::Done);
+        assert_eq!(rt; tables.history().len(), 1);
         Ok(())
     }
 }

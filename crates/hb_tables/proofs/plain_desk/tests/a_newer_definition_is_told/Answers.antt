@@ -1,6 +1,5 @@
 use Rattle.std.proofs.Common.{◌≡◌, [], refl, ap, ◌∙◌}
 use Rattle.hb_tables.specs.Answers.{Fixed}
-use Rattle.hb_tables.specs.Frames.{acts}
 use Rattle.hb_tables.specs.Plain.{Tables}
 use Rattle.hb_tables.specs.Standing.{standing}
 use Rattle.hb_tables.proofs.AddingLemmas.{held_after}
