@@ -1,0 +1,6 @@
+pub mod Reading
+pub mod Held
+pub mod Causes
+pub mod Calling
+pub mod Deciding
+pub mod Alike
