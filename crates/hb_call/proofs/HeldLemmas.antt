@@ -3,7 +3,7 @@ use Rattle.std.proofs.Common.{◌≡◌, ℕ, suc, ◌+◌, ◌<◌, ◌≤◌, 
 use mathlib.Core.List.{IsPrefix}
 use Rattle.std.proofs.lemmas.List.{append-nil}
 use Rattle.std.proofs.Math.Seq.{drop-cons}
-use Rattle.std.specs.Prelude.{All}
+use Rattle.std.specs.List.{AllByRecursion}
 use Rattle.hb_types.specs.declared.ids.CallNo.{CallNo}
 use Rattle.hb_types.specs.declared.ids.KeyId.{KeyId}
 use Rattle.hb_names.specs.declared.names.TheConstants.{NAMES_MAX}
@@ -62,16 +62,16 @@ less : (k : ℕ) (kept hs : List Stand) (h : Stand) → count_of k (kept ++ h �
 less k kept hs h once = let a = count_append k kept (h ∷ hs) in let b = count_append k kept hs in omega (arith, a, b, once)
 
 -- the keys behind others that stay may be freed, and then these stay
-pub may_free : (kept hs : List Stand) (keys : List KeyId) → map (λ (h : Stand). h.key) hs ≡ map (λ (k : KeyId). k.0) keys → ((k : ℕ) → count_of k (kept ++ hs) ≤ 1) → All (λ (k : KeyId). k.0 < NAMES_MAX) keys → MayFree keys (kept ++ hs)
+pub may_free : (kept hs : List Stand) (keys : List KeyId) → map (λ (h : Stand). h.key) hs ≡ map (λ (k : KeyId). k.0) keys → ((k : ℕ) → count_of k (kept ++ hs) ≤ 1) → AllByRecursion (λ (k : KeyId). k.0 < NAMES_MAX) keys → MayFree keys (kept ++ hs)
 may_free kept [] [] e once below = tt
 may_free kept [] (key ∷ keys) e once below = absurd (cc)
 may_free kept (h ∷ hs) [] e once below = absurd (cc)
 may_free kept (h ∷ hs) (key ∷ keys) e once below =
     let p = head_same h hs key keys e in
     let a = count_append key.0 kept (h ∷ hs) in let b = count_head key.0 hs h p.0 in let o = once key.0 in (
-      below 0 key (omega arith),
+      below.0,
       omega (arith, a, b, o),
-      subst (λ (l : List Stand). MayFree keys l) (sym (head_gone kept hs h key.0 p.0 o)) (may_free kept hs keys p.1 (λ k. less k kept hs h (once k)) (λ i d h. below (suc i) d (omega (arith, h)))),
+      subst (λ (l : List Stand). MayFree keys l) (sym (head_gone kept hs h key.0 p.0 o)) (may_free kept hs keys p.1 (λ k. less k kept hs h (once k)) below.1),
     )
 
 -- what is left behind the Frees of the keys behind those that stay

@@ -1,6 +1,7 @@
 -- A call that is being decided: what it answers while its body is checked, and what is kept.
-use Rattle.std.specs.Prelude.{◌≡◌, ℕ, ◌+◌, ◌≤◌, ◌⊎◌, List, [], ◌∷◌, ◌++◌, length, map, Contains, Option, Some, None, nat_eq, if◌then◌else◌}
+use Rattle.std.specs.Prelude.{◌≡◌, ℕ, ◌≤◌, ◌⊎◌, List, [], ◌∷◌, ◌++◌, length, map, Option, Some, None, nat_eq, if◌then◌else◌}
 use mathlib.Core.List.{IsPrefix}
+use Rattle.hb_types.specs.declared.types.TheConstants.{PARAMS_MAX}
 use Rattle.hb_types.specs.declared.types.Ty.{Ty}
 use Rattle.hb_types.specs.declared.ids.CallNo.{CallNo}
 use Rattle.hb_types.specs.declared.ids.ClassId.{ClassId}
@@ -14,13 +15,12 @@ use Rattle.hb_tables.specs.declared.entry.Act.{Act}
 use Rattle.hb_tables.specs.declared.entry.ArgKinds.{ArgKinds}
 use Rattle.hb_tables.specs.Answers.{Fixed}
 use Rattle.hb_tables.specs.Frames.{acts}
-use Rattle.hb_tables.specs.declared.entry.TheConstants.{HOLDS_MAX}
-use Rattle.hb_tables.specs.History.{spot, times, of_caller, IsLegal}
+use Rattle.hb_tables.specs.History.{spot, times, IsLegal}
 use Rattle.hb_tables.specs.Names.{name_of}
 use Rattle.hb_call.specs.declared.answers.Answer.{Answer}
 use Rattle.hb_call.specs.declared.answers.Refused.{Refused}
 use Rattle.hb_call.specs.Reading.{decision, call_of}
-use Rattle.hb_call.specs.Held.{Holds, stands}
+use Rattle.hb_call.specs.Held.{HasRoom, Holds, stands}
 
 abbrev pub answers_of : List Answer → List Asked
 answers_of answers = map (λ a. asked a.class a.name a.site) answers
@@ -28,6 +28,11 @@ answers_of answers = map (λ a. asked a.class a.name a.site) answers
 abbrev pub refusal_of : Option Refused → Option Refusal
 refusal_of None = None
 refusal_of (Some r) = Some (refusal r.class r.name r.cause)
+
+-- an answer tells of the key
+abbrev pub IsAmong : ℕ → List Answer → Type 0
+IsAmong k [] = ⊥
+IsAmong k (a ∷ answers) = (k ≡ a.key.0) ⊎ IsAmong k answers
 
 -- the type that an answer tells of a key
 abbrev pub type_among : List Answer → ℕ → Option (Option TypeSite)
@@ -43,10 +48,6 @@ abbrev pub AreTrue : Table → List Name → List Entry → ℕ × ℕ → List 
 AreTrue t names log x [] = Unit {0}
 AreTrue t names log x (a ∷ answers) = (place names (name_of t (a.class.0, a.name.0)) ≡ Some a.key.0) × HasType log x a.key.0 a.site × AreTrue t names log x answers
 
--- There is room for one more call of the caller at each key that the call does not hold.
-abbrev pub HasRoom : List Entry → ℕ → ℕ → Type 0
-HasRoom log c q = (k : ℕ) → length (of_caller c (spot k log).calls) + 1 ≤ HOLDS_MAX + times (c, q) (spot k log).calls
-
 -- What is kept while the call q of the caller c is decided: it holds its own key and those that it answered for, and no others.
 pub record IsCalling (t : Table) (door : Fixed) (q : ℕ) (names : List Name) (log : List Entry) (key : KeyId) (own : Option TypeSite) (held : List KeyId) (answers : List Answer) : Type 0 where
   pub legal : IsLegal door.limit log
@@ -55,7 +56,7 @@ pub record IsCalling (t : Table) (door : Fixed) (q : ℕ) (names : List Name) (l
   pub first : (others : List KeyId) × (held ≡ key ∷ others)
   pub own_is : HasType log (door.caller, q) key.0 own
   pub answered : AreTrue t names log (door.caller, q) answers
-  pub only : (k : ℕ) → times (door.caller, q) (spot k log).calls ≡ 1 → (k ≡ key.0) ⊎ Contains (map (λ a. a.key.0) answers) k
+  pub only : (k : ℕ) → times (door.caller, q) (spot k log).calls ≡ 1 → (k ≡ key.0) ⊎ IsAmong k answers
 
 -- As far as it goes, the acts of the call q of this key that were made since the start are those of a decision, whatever comes behind.
 pub record Begun (c : ℕ) (q : CallNo) (key : KeyId) (kinds : List Ty) (start log : List Entry) : Type 0 where
@@ -84,3 +85,7 @@ pub record Goes (g : Given) (names known : List Name) (old new : List Entry) : T
 pub record IsAlike (g h : Given) (names known : List Name) (old new : List Entry) : Type 0 where
   pub same : g ≡ h
   pub goes : Goes g names known old new
+
+-- so many kinds as may be, some of which count
+abbrev pub IsArgKinds : ArgKinds → Type 0
+IsArgKinds args = (length args.kinds ≡ PARAMS_MAX) × (args.count ≤ PARAMS_MAX)

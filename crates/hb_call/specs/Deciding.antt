@@ -14,6 +14,10 @@ use Rattle.hb_tables.specs.declared.entry.Act.{Act}
 use Rattle.hb_tables.specs.declared.entry.Act.TheVariants.{Call}
 use Rattle.hb_tables.specs.declared.entry.Entry.{Entry}
 use Rattle.hb_tables.specs.declared.entry.Verdict.{Verdict}
+use Rattle.hb_tables.specs.declared.entry.Verdict.TheVariants as verdict
+use Rattle.hb_tables.specs.declared.entry.By.TheVariants as by
+use Rattle.hb_check.specs.declared.bodies.Checked.{Checked}
+use Rattle.hb_check.specs.declared.bodies.Checked.TheVariants as checked
 use Rattle.hb_tables.specs.History.{entry}
 use Rattle.hb_tables.specs.Frames.{acts}
 use Rattle.hb_tables.specs.Rows.{IsDecided, body_at, kinds_of}
@@ -22,6 +26,12 @@ use Rattle.hb_call.specs.Reading.{Read, call_of, called}
 use Rattle.hb_call.specs.Held.{stands}
 use Rattle.hb_call.specs.Calling.{Given, Begun}
 
+-- the verdict that a check comes to
+abbrev pub told : Checked → Verdict
+told (checked.Good d) = verdict.Enter by.Fresh
+told (checked.Bad ill) = verdict.IllTyped ill
+
+-- the type that is declared at a site, where there is a site
 abbrev pub type_declared : Table → Option TypeSite → Option MethodTy
 type_declared t own = type_at (sites_of t) (option_map (λ s. s.0) own)
 

@@ -1,6 +1,6 @@
 //! A call that is being decided.
 
-ghost use Rattle.std.specs.Prelude.{◌≡◌, ◌<◌, List, [], ◌∷◌, ◌++◌, None, Some, IfOk, IfSome, OnErr};
+ghost use Rattle.std.specs.Prelude.{◌≡◌, ◌<◌, ℕ, List, [], ◌∷◌, ◌++◌, None, Some, IfOk, IfSome, OnErr};
 ghost use mathlib.Core.List.{IsPrefix};
 ghost use Rattle.hb_types.specs.Types.{IsMethodTy};
 ghost use Rattle.hb_types.specs.declared.ids.ClassId.{ClassId};
@@ -13,19 +13,19 @@ ghost use Rattle.hb_tables.specs.Names.{name_of};
 ghost use Rattle.hb_tables.specs.Rows.{kinds_of};
 ghost use Rattle.hb_tables.specs.Verdicts.{takes};
 ghost use Rattle.hb_call.specs.Held.{Holds};
-ghost use Rattle.hb_call.specs.Calling.{IsAlike, IsCalling, answers_of};
-ghost use Rattle.hb_call.specs.Deciding.{Decided, IsVerdictBy};
+ghost use Rattle.hb_call.specs.Calling.{IsAlike, IsArgKinds, IsCalling, answers_of};
+ghost use Rattle.hb_call.specs.Deciding.{Decided, IsVerdictBy, told};
 
 use crate::answers::{Answer, Refused, found};
 use crate::frame::{CallFail, free_keys};
 use hb_check::lookup::{LookFail, Lookup};
-use hb_check::{Checked, check};
+use hb_check::{Checked, all_below, check};
 use hb_names::{NAMES_MAX, NameFail, Names};
 use hb_tables::desk::{Desk, Look};
 use hb_tables::entry::{ArgKinds, By, TYPES_MAX, Verdict};
 use hb_tree::program::Program;
 use hb_types::ids::{BodySite, CallNo, ClassId, KeyId, NameId, TypeSite};
-use hb_types::types::{MethodTy, PARAMS_MAX, below};
+use hb_types::types::MethodTy;
 use std::alloc::{AllocError, Global};
 
 /// A call that is being decided. It is the lookup of its body's check: each type at which the check looks is held first.
@@ -56,7 +56,9 @@ impl<D: Desk, N: Names> Call<'_, '_, '_, D, N> {
         first: Look,
     ) -> Result<(Verdict, Option<BodySite>), CallFail>
         requires calling { IsCalling self.old.prog.now (D.fixed self.old.desk.now) self.old.q.0 (N.known self.old.names.now) (D.front self.old.desk.now) self.old.key self.old.own self.old.held.items self.old.answers.items }
+        requires args { IsArgKinds self.old.args }
         requires fresh { (self.old.answers.items ≡ []) × (self.old.refused ≡ None) }
+        requires named { (bytes : List ℕ) × (place (N.known self.old.names.now) (self.old.class.0, bytes) ≡ Some self.old.key.0) }
         requires look { (before : List Entry) × IsPrefix before (D.front self.old.desk.now) × IsLookAt self.old.key.0 first before }
         ensures alike { IsAlike (record { t = self.old.prog.now; door = D.fixed self.old.desk.now; q = self.old.q; key = self.old.key; own = self.old.own; class = self.old.class; args = self.old.args; desk = self.old.desk.ghost_name; names = self.old.names.ghost_name }) (record { t = self.new.prog.now; door = D.fixed self.new.desk.now; q = self.new.q; key = self.new.key; own = self.new.own; class = self.new.class; args = self.new.args; desk = self.new.desk.ghost_name; names = self.new.names.ghost_name }) (N.known self.old.names.now) (N.known self.new.names.now) (D.front self.old.desk.now) (D.front self.new.desk.now) }
         ensures holds { Holds (D.fixed self.new.desk.now).caller self.new.q.0 self.new.held.items (D.front self.new.desk.now) }
@@ -82,6 +84,7 @@ impl<D: Desk, N: Names> Call<'_, '_, '_, D, N> {
     // The verdict on the call with this definition. The keys on which it rests are held.
     fn verdict(&mut self, alloc: Global, site: Option<BodySite>) -> Result<Verdict, CallFail>
         requires calling { IsCalling self.old.prog.now (D.fixed self.old.desk.now) self.old.q.0 (N.known self.old.names.now) (D.front self.old.desk.now) self.old.key self.old.own self.old.held.items self.old.answers.items }
+        requires args { IsArgKinds self.old.args }
         requires fresh { (self.old.answers.items ≡ []) × (self.old.refused ≡ None) }
         ensures calling { IsCalling self.new.prog.now (D.fixed self.new.desk.now) self.new.q.0 (N.known self.new.names.now) (D.front self.new.desk.now) self.new.key self.new.own self.new.held.items self.new.answers.items }
         ensures alike { IsAlike (record { t = self.old.prog.now; door = D.fixed self.old.desk.now; q = self.old.q; key = self.old.key; own = self.old.own; class = self.old.class; args = self.old.args; desk = self.old.desk.ghost_name; names = self.old.names.ghost_name }) (record { t = self.new.prog.now; door = D.fixed self.new.desk.now; q = self.new.q; key = self.new.key; own = self.new.own; class = self.new.class; args = self.new.args; desk = self.new.desk.ghost_name; names = self.new.names.ghost_name }) (N.known self.old.names.now) (N.known self.new.names.now) (D.front self.old.desk.now) (D.front self.new.desk.now) }
@@ -102,10 +105,8 @@ impl<D: Desk, N: Names> Call<'_, '_, '_, D, N> {
         if !takes(&self.prog.type_of(declared), &self.args) {
             return Ok(Verdict::BadArgs);
         }
-        match check(alloc, self.prog, self.class, body, declared, self)? {
-            Checked::Good(_) => Ok(Verdict::Enter(By::Fresh)),
-            Checked::Bad(ill) => Ok(Verdict::IllTyped(ill)),
-        }
+        let found = check(alloc, self.prog, self.class, body, declared, self)?;
+        Ok(told(found))
     }
 
     // Gives back all keys but the called method's own.
@@ -193,7 +194,7 @@ impl<D: Desk, N: Names> Call<'_, '_, '_, D, N> {
         ensures answers { self.new.answers ≡ self.old.answers }
         ensures refused { self.new.refused ≡ self.old.refused }
     {
-        if key == self.key {
+        if key.0 == self.key.0 {
             return Ok(self.own);
         }
         if let Some(site) = found(&self.answers, key) {
@@ -207,20 +208,27 @@ impl<D: Desk, N: Names> Call<'_, '_, '_, D, N> {
     }
 }
 
+// The verdict that a check comes to.
+fn told(found: Checked) -> Verdict
+    ensures { result ≡ told found }
+{
+    match found {
+        Checked::Good(_) => Verdict::Enter(By::Fresh),
+        Checked::Bad(ill) => Verdict::IllTyped(ill),
+    }
+}
+
 // Whether a method of this type may be called with these arguments.
 fn takes(ty: &MethodTy, args: &ArgKinds) -> bool
-    requires { IsMethodTy ty.now }
+    requires form { IsMethodTy ty.now }
+    requires args { IsArgKinds args.now }
     ensures { result ≡ takes ty.now (kinds_of args.now) }
 {
     if args.count != ty.count {
         return false;
     }
-    for i in 0..(args.count as usize).min(PARAMS_MAX) {
-        if !below(args.kinds[i], ty.params[i]) {
-            return false;
-        }
-    }
-    true
+    let count = args.count as usize;
+    all_below(&args.kinds[..count], &ty.params[..count])
 }
 
 impl<D: Desk, N: Names> Lookup for Call<'_, '_, '_, D, N> {

@@ -3,7 +3,8 @@
 ghost use Rattle.std.specs.Prelude.{◌≡◌, [], ◌++◌};
 ghost use mathlib.Core.List.{IsPrefix};
 ghost use Rattle.hb_tables.specs.Frames.{acts};
-ghost use Rattle.hb_call.specs.Held.{Holds, MayFree, frees, stands};
+ghost use Rattle.hb_tables.specs.History.{IsLegal};
+ghost use Rattle.hb_call.specs.Held.{HasRoom, Holds, MayFree, frees, stands};
 
 use hb_check::lookup::LookFail;
 use hb_names::NameFail;
@@ -106,6 +107,8 @@ pub(crate) fn free_keys<D: Desk>(desk: &mut D, q: CallNo, keys: &[KeyId])
     requires held { MayFree keys.now (stands (D.fixed desk.old).caller q.0 (D.front desk.old)) }
     ensures acts { acts (D.fixed desk.old).caller (D.front desk.new) ≡ acts (D.fixed desk.old).caller (D.front desk.old) ++ frees q keys.now }
     ensures kept { IsPrefix (D.front desk.old) (D.front desk.new) }
+    ensures legal { IsLegal (D.fixed desk.old).limit (D.front desk.old) → IsLegal (D.fixed desk.old).limit (D.front desk.new) }
+    ensures room { HasRoom (D.front desk.old) (D.fixed desk.old).caller q.0 → HasRoom (D.front desk.new) (D.fixed desk.old).caller q.0 }
     ensures fixed { D.fixed desk.new ≡ D.fixed desk.old }
 {
     for key in keys {

@@ -4,6 +4,7 @@
 mod answers;
 mod call;
 
+
 mod frame;
 
 

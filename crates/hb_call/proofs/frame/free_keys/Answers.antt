@@ -1,11 +1,12 @@
 use Rattle.std.proofs.Common.{◌≡◌, ◌+◌, drop, get_or, refl, sym, ap, ◌∙◌, subst}
 use Rattle.hb_types.specs.declared.ids.KeyId.{KeyId}
 use Rattle.hb_tables.specs.declared.entry.Act.TheVariants.{Free}
-use Rattle.hb_tables.specs.History.{Adds, spot, times}
+use Rattle.hb_tables.specs.History.{Adds, IsLegal, spot, times}
 use Rattle.hb_tables.specs.Answers.{Fixed}
 use Rattle.hb_tables.proofs.StandingLemmas.{held_stands}
 use Rattle.hb_call.specs.Held.{MayFree, stands}
 use Rattle.hb_call.proofs.HeldLemmas.{may_drop, free_stands, free_next, kept_on}
+use Rattle.hb_call.proofs.RoomLemmas.{room_free}
 use Rattle.hb_call.proofs.frame.free_keys.Goals as goal
 
 pub free-requires-clause-held : goal.free-requires-clause-held
@@ -24,6 +25,8 @@ loop-key-preserved g c =
     record {
       fixed = c.free.ensures.fixed ∙ c.loop-key.invariant.fixed;
       kept = kept_on who _ old new _ c.loop-key.invariant.kept adds;
+      legal = λ h. subst (λ (z : Fixed). IsLegal z.limit new) (c.free.ensures.fixed ∙ c.loop-key.invariant.fixed) (rw (c.free.ensures.fixed) c.free.ensures.legal);
+      room = λ h. room_free who c.args.q key old new adds (c.loop-key.invariant.room h);
       left = subst (MayFree (drop (c.loop-key.key-index + 1) c.args.keys.now)) (sym (free_stands who c.args.q key old new adds)) may.2;
       acts = free_next who c.args.q c.args.keys.now c.loop-key.key-index (record { 0 = 0 }) old new _ c.loop-key-test.true adds c.loop-key.invariant.acts;
     }
