@@ -92,12 +92,13 @@ pub call_ends : (c : ℕ) (q : CallNo) (key : KeyId) (site : Option BodySite) (a
     → (made : List Act) × (acts c new ≡ acts c start ++ made) × ((l : List Act) → call_of q.0 key.0 (kinds_of args) (made ++ l) ≡ called q.0 site v (stands c q.0 new) l)
 call_ends c q key site args v start old new adds b =
     let a : Act = Call q key site args v in
-    let same = adds_apart c q.0 old new a adds refl in
-    (b.made ++ a ∷ [],
+    let same = adds_apart c q.0 old new a adds refl in (
+      b.made ++ a ∷ [],
       adds_act c old new a adds ∙ ap (λ w. w ++ a ∷ []) b.grows ∙ append_assoc (acts c start) b.made (a ∷ []),
       λ l. let e = eq-eqb q.0 q.0 refl in let k = eq-eqb key.0 key.0 refl in let s = kinds_itself (kinds_of args) in
-      let one : decision q.0 key.0 (kinds_of args) (stands c q.0 old) (a ∷ l) ≡ called q.0 site v (stands c q.0 old) l = rw (e, k, s) refl in
-      ap (call_of q.0 key.0 (kinds_of args)) (append_assoc b.made (a ∷ []) l) ∙ b.reads (a ∷ l) ∙ one ∙ ap (λ hs. called q.0 site v hs l) (sym same))
+          let one : decision q.0 key.0 (kinds_of args) (stands c q.0 old) (a ∷ l) ≡ called q.0 site v (stands c q.0 old) l = rw (e, k, s) refl in
+          ap (call_of q.0 key.0 (kinds_of args)) (append_assoc b.made (a ∷ []) l) ∙ b.reads (a ∷ l) ∙ one ∙ ap (λ hs. called q.0 site v hs l) (sym same),
+    )
 
 -- a call whose desk is the same goes on
 pub alike_hold : (g : Given) (door : Fixed) (names : List Name) (old new : List Entry) (j : KeyId) (ty : Option TypeSite) (n : ℕ) → door ≡ g.door → Adds g.door.caller old new (Hold g.q j ty n) → IsAlike g (record g { door = door }) names names old new

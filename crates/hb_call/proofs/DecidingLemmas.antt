@@ -67,19 +67,21 @@ found_by t class site declared m kinds answers refused (checked.Good d) typed fi
     let p = parts t class (slice_get t.bodies site.0) (sites_of t declared.0) a.subject a.subject_is in
     let good = fits_type m p.declared kinds (sites_of t declared.0) typed p.has_type fits in
     let r = a.tells table agrees in
-    let keys : map key_asked answers ≡ looks U a.subject = sym (append-nil (map key_asked answers)) ∙ ap (keys_asked answers) (sym a.cause) ∙ r.1 in
-    (sym (enters_of t U class (slice_get t.bodies site.0) (sites_of t declared.0) kinds (record { body = p.body; declared = p.declared; has_body = p.has_body; has_type = p.has_type; fits = good; holds = subst (λ s. IsJudged U s) (sym p.is) r.0 })),
+    let keys : map key_asked answers ≡ looks U a.subject = sym (append-nil (map key_asked answers)) ∙ ap (keys_asked answers) (sym a.cause) ∙ r.1 in (
+      sym (enters_of t U class (slice_get t.bodies site.0) (sites_of t declared.0) kinds (record { body = p.body; declared = p.declared; has_body = p.has_body; has_type = p.has_type; fits = good; holds = subst (λ s. IsJudged U s) (sym p.is) r.0 })),
       ap (λ (b : Option Body). looks_of t U class b (sites_of t declared.0) kinds) p.has_body ∙ ap (λ (n : Option MethodTy). looks_of t U class (Some p.body) n kinds) p.has_type
-      ∙ ap (λ (b : Bool). if b then looks U (subject t class p.body p.declared) else []) good ∙ ap (looks U) p.is ∙ sym keys)
+          ∙ ap (λ (b : Bool). if b then looks U (subject t class p.body p.declared) else []) good ∙ ap (looks U) p.is ∙ sym keys,
+    )
 found_by t class site declared m kinds answers refused (checked.Bad ill) typed fits a table agrees =
     let U = types_in (sites_of t) table in
     let p = parts t class (slice_get t.bodies site.0) (sites_of t declared.0) a.subject a.subject_is in
     let good = fits_type m p.declared kinds (sites_of t declared.0) typed p.has_type fits in
     let r = a.tells table agrees in
-    let keys : map key_asked answers ≡ looks U a.subject = sym (append-nil (map key_asked answers)) ∙ ap (keys_asked answers) (sym a.cause) ∙ r.1 in
-    (sym (ill_of t U class (slice_get t.bodies site.0) (sites_of t declared.0) kinds ill (record { body = p.body; declared = p.declared; has_body = p.has_body; has_type = p.has_type; fits = good; holds = subst (λ s. BodyFails U s ill) (sym p.is) r.0 })),
+    let keys : map key_asked answers ≡ looks U a.subject = sym (append-nil (map key_asked answers)) ∙ ap (keys_asked answers) (sym a.cause) ∙ r.1 in (
+      sym (ill_of t U class (slice_get t.bodies site.0) (sites_of t declared.0) kinds ill (record { body = p.body; declared = p.declared; has_body = p.has_body; has_type = p.has_type; fits = good; holds = subst (λ s. BodyFails U s ill) (sym p.is) r.0 })),
       ap (λ (b : Option Body). looks_of t U class b (sites_of t declared.0) kinds) p.has_body ∙ ap (λ (n : Option MethodTy). looks_of t U class (Some p.body) n kinds) p.has_type
-      ∙ ap (λ (b : Bool). if b then looks U (subject t class p.body p.declared) else []) good ∙ ap (looks U) p.is ∙ sym keys)
+          ∙ ap (λ (b : Bool). if b then looks U (subject t class p.body p.declared) else []) good ∙ ap (looks U) p.is ∙ sym keys,
+    )
 
 -- the tables behind a list agree with answers that are true there
 agrees : (t : Table) (names : List Name) (log : List Entry) (x : ℕ × ℕ) (answers : List Answer) → AreTrue t names log x answers → Agrees (answers_of answers) (declared_in t names log)

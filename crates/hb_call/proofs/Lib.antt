@@ -6,3 +6,4 @@ pub mod BegunLemmas
 pub mod RetreatLemmas
 pub mod TakesLemmas
 pub mod DecidingLemmas
+pub mod DecideLemmas

@@ -76,6 +76,9 @@ pub record Given : Type 0 where
   pub desk : ℕ
   pub names : ℕ
 
+abbrev pub IsSame : Given → Given → Type 0
+IsSame g h = g ≡ h
+
 -- names and entries went on, and with them the decision of the call
 pub record Goes (g : Given) (names known : List Name) (old new : List Entry) : Type 0 where
   pub named : IsPrefix names known

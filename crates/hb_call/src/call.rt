@@ -13,7 +13,7 @@ ghost use Rattle.hb_tables.specs.Names.{name_of};
 ghost use Rattle.hb_tables.specs.Rows.{kinds_of};
 ghost use Rattle.hb_tables.specs.Verdicts.{takes};
 ghost use Rattle.hb_call.specs.Held.{Holds};
-ghost use Rattle.hb_call.specs.Calling.{IsAlike, IsArgKinds, IsCalling, answers_of};
+ghost use Rattle.hb_call.specs.Calling.{IsAlike, IsArgKinds, IsCalling, IsSame, answers_of};
 ghost use Rattle.hb_call.specs.Deciding.{Decided, IsVerdictBy, told};
 
 use crate::answers::{Answer, Refused, found};
@@ -60,7 +60,10 @@ impl<D: Desk, N: Names> Call<'_, '_, '_, D, N> {
         requires fresh { (self.old.answers.items ≡ []) × (self.old.refused ≡ None) }
         requires named { (bytes : List ℕ) × (place (N.known self.old.names.now) (self.old.class.0, bytes) ≡ Some self.old.key.0) }
         requires look { (before : List Entry) × IsPrefix before (D.front self.old.desk.now) × IsLookAt self.old.key.0 first before }
-        ensures alike { IsAlike (record { t = self.old.prog.now; door = D.fixed self.old.desk.now; q = self.old.q; key = self.old.key; own = self.old.own; class = self.old.class; args = self.old.args; desk = self.old.desk.ghost_name; names = self.old.names.ghost_name }) (record { t = self.new.prog.now; door = D.fixed self.new.desk.now; q = self.new.q; key = self.new.key; own = self.new.own; class = self.new.class; args = self.new.args; desk = self.new.desk.ghost_name; names = self.new.names.ghost_name }) (N.known self.old.names.now) (N.known self.new.names.now) (D.front self.old.desk.now) (D.front self.new.desk.now) }
+        ensures same { IsSame (record { t = self.old.prog.now; door = D.fixed self.old.desk.now; q = self.old.q; key = self.old.key; own = self.old.own; class = self.old.class; args = self.old.args; desk = self.old.desk.ghost_name; names = self.old.names.ghost_name }) (record { t = self.new.prog.now; door = D.fixed self.new.desk.now; q = self.new.q; key = self.new.key; own = self.new.own; class = self.new.class; args = self.new.args; desk = self.new.desk.ghost_name; names = self.new.names.ghost_name }) }
+        ensures named { IsPrefix (N.known self.old.names.now) (N.known self.new.names.now) }
+        ensures kept { IsPrefix (D.front self.old.desk.now) (D.front self.new.desk.now) }
+        ensures goes { OnErr result (IsAlike (record { t = self.old.prog.now; door = D.fixed self.old.desk.now; q = self.old.q; key = self.old.key; own = self.old.own; class = self.old.class; args = self.old.args; desk = self.old.desk.ghost_name; names = self.old.names.ghost_name }) (record { t = self.new.prog.now; door = D.fixed self.new.desk.now; q = self.new.q; key = self.new.key; own = self.new.own; class = self.new.class; args = self.new.args; desk = self.new.desk.ghost_name; names = self.new.names.ghost_name }) (N.known self.old.names.now) (N.known self.new.names.now) (D.front self.old.desk.now) (D.front self.new.desk.now)) }
         ensures holds { Holds (D.fixed self.new.desk.now).caller self.new.q.0 self.new.held.items (D.front self.new.desk.now) }
         ensures decided { IfOk result (λ r. Decided (record { t = self.new.prog.now; door = D.fixed self.new.desk.now; q = self.new.q; key = self.new.key; own = self.new.own; class = self.new.class; args = self.new.args; desk = self.new.desk.ghost_name; names = self.new.names.ghost_name }) (N.known self.new.names.now) (D.front self.old.desk.now) (D.front self.new.desk.now) r.0 r.1) }
     {

@@ -3,9 +3,6 @@
 
 mod answers;
 mod call;
-
-
 mod frame;
-
 
 pub use frame::{CallFail, Entered, Frame, leave};
