@@ -79,13 +79,13 @@ below_last (k ∷ held) key h low = (h.0, below_last held key h.1 low)
 pub hold_stands : (c : ℕ) (q : CallNo) (key : KeyId) (ty : Option TypeSite) (n : ℕ) (old new : List Entry) → Adds c old new (Hold q key ty n) → stands c q.0 new ≡ stands c q.0 old ++ record { key = key.0; ty = ty; changes = n } ∷ []
 hold_stands c q key ty n old new h = adds_stand c q.0 old new (Hold q key ty n) h ∙ ap (λ b. cond b (stands c q.0 old ++ record { key = key.0; ty = ty; changes = n } ∷ []) (stands c q.0 old)) (eq-eqb q.0 q.0 refl)
 
-hold_keys : (c : ℕ) (q : CallNo) (key : KeyId) (ty : Option TypeSite) (n : ℕ) (old new : List Entry) (held : List KeyId) → Adds c old new (Hold q key ty n) → map (λ (h : Stand). h.key) (stands c q.0 old) ≡ map (λ (k : KeyId). k.0) held → map (λ (h : Stand). h.key) (stands c q.0 new) ≡ map (λ (k : KeyId). k.0) (held ++ key ∷ [])
+pub hold_keys : (c : ℕ) (q : CallNo) (key : KeyId) (ty : Option TypeSite) (n : ℕ) (old new : List Entry) (held : List KeyId) → Adds c old new (Hold q key ty n) → map (λ (h : Stand). h.key) (stands c q.0 old) ≡ map (λ (k : KeyId). k.0) held → map (λ (h : Stand). h.key) (stands c q.0 new) ≡ map (λ (k : KeyId). k.0) (held ++ key ∷ [])
 hold_keys c q key ty n old new held h e =
     ap (map (λ (h : Stand). h.key)) (hold_stands c q key ty n old new h) ∙ map-append (λ (h : Stand). h.key) (stands c q.0 old) (record { key = key.0; ty = ty; changes = n } ∷ [])
     ∙ ap (λ l. l ++ key.0 ∷ []) e ∙ sym (map-append (λ (k : KeyId). k.0) held (key ∷ []))
 
 -- behind a Hold of a key the call holds this one and those from before
-held_then : (c : ℕ) (q : CallNo) (key : KeyId) (ty : Option TypeSite) (n : ℕ) (old new : List Entry) (k : ℕ) → Adds c old new (Hold q key ty n) → times (c, q.0) (spot k new).calls ≡ 1 → (k ≡ key.0) ⊎ (times (c, q.0) (spot k old).calls ≡ 1)
+pub held_then : (c : ℕ) (q : CallNo) (key : KeyId) (ty : Option TypeSite) (n : ℕ) (old new : List Entry) (k : ℕ) → Adds c old new (Hold q key ty n) → times (c, q.0) (spot k new).calls ≡ 1 → (k ≡ key.0) ⊎ (times (c, q.0) (spot k old).calls ≡ 1)
 held_then c q key ty n old new k h one = go (eqb k key.0) refl
   where
     s : Stand

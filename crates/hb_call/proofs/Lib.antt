@@ -7,3 +7,4 @@ pub mod RetreatLemmas
 pub mod TakesLemmas
 pub mod DecidingLemmas
 pub mod DecideLemmas
+pub mod StartLemmas

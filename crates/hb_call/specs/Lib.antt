@@ -4,3 +4,4 @@ pub mod Causes
 pub mod Calling
 pub mod Deciding
 pub mod Alike
+pub mod Entering

@@ -68,3 +68,21 @@ loop-verdict-preserved g c =
       look = (g.D.Desk.front c.decide.new.self, c.retreat.ensures.alike.goes.kept, subst (λ (k : KeyId). IsLookAt k.0 c.in-Err.newer (g.D.Desk.front c.decide.new.self)) (ap (λ (h : Given). h.key) c.retreat.ensures.alike.same) d.1);
       alike = alike_on _ _ _ _ _ _ _ _ _ c.loop-verdict.invariant.alike on;
     }
+
+pub returns-in_err-verdict-clause-desk : goal.returns-in_err-verdict-clause-desk
+returns-in_err-verdict-clause-desk g c = sym (ap (λ (h : Given). h.desk) (alike_on _ _ _ _ _ _ _ _ _ c.loop-verdict.invariant.alike c.verdict.ensures.alike).same)
+
+pub returns-in_err-reserve-clause-desk : goal.returns-in_err-reserve-clause-desk
+returns-in_err-reserve-clause-desk g c = sym (ap (λ (h : Given). h.desk) (alike_on _ _ _ _ _ _ _ _ _ c.loop-verdict.invariant.alike c.verdict.ensures.alike).same)
+
+pub returns-in-Ok-clause-desk : goal.returns-in-Ok-clause-desk
+returns-in-Ok-clause-desk g c = sym (ap (λ (h : Given). h.desk) (alike_on _ _ _ _ _ _ _ _ _ c.loop-verdict.invariant.alike c.verdict.ensures.alike).same)
+
+pub returns-in_err-verdict-clause-names : goal.returns-in_err-verdict-clause-names
+returns-in_err-verdict-clause-names g c = sym (ap (λ (h : Given). h.names) (alike_on _ _ _ _ _ _ _ _ _ c.loop-verdict.invariant.alike c.verdict.ensures.alike).same)
+
+pub returns-in_err-reserve-clause-names : goal.returns-in_err-reserve-clause-names
+returns-in_err-reserve-clause-names g c = sym (ap (λ (h : Given). h.names) (alike_on _ _ _ _ _ _ _ _ _ c.loop-verdict.invariant.alike c.verdict.ensures.alike).same)
+
+pub returns-in-Ok-clause-names : goal.returns-in-Ok-clause-names
+returns-in-Ok-clause-names g c = sym (ap (λ (h : Given). h.names) (alike_on _ _ _ _ _ _ _ _ _ c.loop-verdict.invariant.alike c.verdict.ensures.alike).same)
