@@ -1,5 +1,5 @@
 -- What a call reads goes on with each act.
-use Rattle.std.proofs.Common.{◌≡◌, ℕ, Bool, true, false, cond, List, [], ◌∷◌, ◌++◌, sym, refl, ap, ◌∙◌, subst, eq-eqb, append_assoc, nat_eq}
+use Rattle.std.proofs.Common.{◌≡◌, ℕ, Bool, true, false, cond, List, [], ◌∷◌, ◌++◌, sym, refl, ap, ◌∙◌, eq-eqb, append_assoc, nat_eq}
 use Rattle.std.proofs.lemmas.List.{append-nil}
 use Rattle.std.specs.Prelude.{Option}
 use mathlib.Core.List.{IsPrefix}
@@ -15,18 +15,18 @@ use Rattle.hb_tables.specs.declared.entry.ArgKinds.{ArgKinds}
 use Rattle.hb_tables.specs.declared.entry.Verdict.{Verdict}
 use Rattle.hb_tables.specs.declared.entry.Entry.{Entry}
 use Rattle.hb_tables.specs.declared.entry.Act.{Act}
-use Rattle.hb_tables.specs.declared.entry.Act.TheVariants.{Hold, Free, Call}
+use Rattle.hb_tables.specs.declared.entry.Act.TheVariants.{Hold, Call}
 use Rattle.hb_tables.specs.Answers.{Fixed}
 use Rattle.hb_tables.specs.History.{Adds, Learns}
 use Rattle.hb_tables.specs.Rows.{kinds_of}
 use Rattle.hb_tables.specs.Frames.{acts}
 use Rattle.hb_tables.specs.Standing.{Stand, all_but, standing, standing_from}
-use Rattle.hb_tables.proofs.DeskLemmas.{adds_prefix, learns_acts, learns_prefix, adds_apart}
+use Rattle.hb_tables.proofs.DeskLemmas.{adds_prefix, learns_acts, adds_apart}
 use Rattle.hb_tables.proofs.FrontLemmas.{adds_act}
 use Rattle.hb_tables.proofs.StandingLemmas.{standing_append}
-use Rattle.hb_call.specs.Reading.{Read, Lost, decision, call_of, called, same_kinds}
+use Rattle.hb_call.specs.Reading.{Lost, decision, call_of, called, same_kinds}
 use Rattle.hb_call.specs.Held.{frees, stands}
-use Rattle.hb_call.specs.Calling.{Begun, Given, Goes, IsAlike}
+use Rattle.hb_call.specs.Calling.{Begun, Given, IsAlike}
 use Rattle.hb_call.proofs.CallingLemmas.{hold_stands}
 
 -- acts that take a decision from these Holds to those go on

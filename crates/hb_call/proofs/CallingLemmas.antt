@@ -15,19 +15,18 @@ use Rattle.hb_names.proofs.NameLemmas.{place-longer}
 use Rattle.hb_names.specs.declared.names.TheConstants.{NAMES_MAX}
 use Rattle.hb_tables.specs.declared.entry.TheConstants.{TYPES_MAX, HOLDS_MAX}
 use Rattle.hb_tables.specs.declared.entry.Entry.{Entry}
-use Rattle.hb_tables.specs.declared.entry.Act.{Act}
-use Rattle.hb_tables.specs.declared.entry.Act.TheVariants.{Hold, Free}
+use Rattle.hb_tables.specs.declared.entry.Act.TheVariants.{Hold}
 use Rattle.hb_tables.specs.Answers.{Fixed}
-use Rattle.hb_tables.specs.History.{spot, times, of_caller, entry, IsLegal, Adds, Learns, ty_code}
+use Rattle.hb_tables.specs.History.{spot, times, of_caller, entry, IsLegal, Adds, ty_code}
 use Rattle.hb_tables.specs.Names.{name_of}
 use Rattle.hb_tables.specs.Frames.{acts, KeepsHold}
-use Rattle.hb_tables.specs.Standing.{Stand, stand_done, count_of}
+use Rattle.hb_tables.specs.Standing.{Stand, count_of}
 use Rattle.hb_tables.proofs.HistoryLemmas.{sound}
 use Rattle.hb_tables.proofs.DeskLemmas.{adds_stand}
 use Rattle.hb_tables.proofs.AddingLemmas.{held_after}
 use Rattle.hb_tables.proofs.StandingLemmas.{held_stands, count_last}
 use Rattle.hb_call.specs.declared.answers.Answer.{Answer}
-use Rattle.hb_call.specs.Held.{HasRoom, Holds, stands}
+use Rattle.hb_call.specs.Held.{stands}
 use Rattle.hb_call.specs.Calling.{HasType, AreTrue, IsAmong, IsCalling, type_among}
 use Rattle.hb_call.proofs.RoomLemmas.{room_hold}
 use Rattle.hb_call.proofs.StayLemmas.{hold_finds, held_once, type_stays, answers_stay, acts_last}

@@ -1,26 +1,23 @@
 -- The decision of a call, when it is made.
-use Rattle.std.proofs.Common.{◌≡◌, ℕ, List, [], ◌∷◌, ◌++◌, map, Some, refl, sym, ap, ◌∙◌, subst, append_assoc}
-use Rattle.std.proofs.lemmas.List.{append-nil}
+use Rattle.std.proofs.Common.{◌≡◌, ℕ, List, [], ◌∷◌, ◌++◌, map, Some, refl, sym, ap, ◌∙◌}
 use Rattle.std.specs.Prelude.{Option, Result, Ok, Err, OnErr}
-use mathlib.Core.List.{IsPrefix}
 use Rattle.hb_types.specs.declared.ids.KeyId.{KeyId}
 use Rattle.hb_types.specs.declared.ids.BodySite.{BodySite}
 use Rattle.hb_names.specs.Names.{Name, place}
 use Rattle.hb_tables.specs.declared.entry.Entry.{Entry}
 use Rattle.hb_tables.specs.declared.entry.Verdict.{Verdict}
 use Rattle.hb_tables.specs.declared.entry.Act.TheVariants.{Call}
-use Rattle.hb_tables.specs.Answers.{Fixed}
-use Rattle.hb_tables.specs.History.{spot, journal, entry, IsLegal, Adds, Learns}
+use Rattle.hb_tables.specs.History.{spot, journal, entry, IsLegal}
 use Rattle.hb_tables.specs.Standing.{Stand}
 use Rattle.hb_tables.specs.Rows.{kinds_of}
 use Rattle.hb_tables.proofs.HistoryLemmas.{legal_prefix}
 use Rattle.hb_tables.proofs.DeskLemmas.{adds_apart}
 use Rattle.hb_call.specs.declared.answers.Answer.{Answer}
-use Rattle.hb_call.specs.Held.{Holds, stands}
+use Rattle.hb_call.specs.Held.{Holds}
 use Rattle.hb_call.specs.Calling.{Begun, Given, IsCalling, answers_of}
 use Rattle.hb_call.specs.Deciding.{Decided, IsVerdictBy}
 use Rattle.hb_call.proofs.StayLemmas.{held_once}
-use Rattle.hb_call.proofs.BegunLemmas.{begun_learns, call_ends}
+use Rattle.hb_call.proofs.BegunLemmas.{call_ends}
 use Rattle.hb_call.proofs.DecidingLemmas.{learned, row_here}
 
 pub on_err : {X E : Type 0} {P : Type 0} (r : Result X E) → P → OnErr r P

@@ -1,10 +1,9 @@
 -- A verdict by what was answered is the row's, and what a call keeps while others go on.
-use Rattle.std.proofs.Common.{◌≡◌, ℕ, zero, suc, ◌<◌, ◌≤◌, ◌⊎◌, inl, inr, ⊎_elim, Bool, true, List, [], ◌∷◌, ◌++◌, length, map, Some, None, Ok, refl, sym, ap, ◌∙◌, subst, arith, append_assoc}
+use Rattle.std.proofs.Common.{◌≡◌, ℕ, zero, suc, ◌⊎◌, inl, inr, Bool, true, List, [], ◌∷◌, ◌++◌, map, Some, None, Ok, refl, sym, ap, ◌∙◌, subst, arith}
 use Rattle.std.proofs.lemmas.List.{append-nil}
 use Rattle.std.proofs.lemmas.Option.{none-some}
 use Rattle.std.specs.Prelude.{Option, Contains, slice_get, if◌then◌else◌}
 use Rattle.std.specs.Option.{option_map}
-use mathlib.Core.List.{IsPrefix}
 use Rattle.hb_types.specs.declared.ids.KeyId.{KeyId}
 use Rattle.hb_types.specs.declared.ids.CallNo.{CallNo}
 use Rattle.hb_types.specs.declared.ids.TypeSite.{TypeSite}
@@ -28,17 +27,17 @@ use Rattle.hb_names.specs.Names.{Name, place}
 use Rattle.hb_tables.specs.declared.entry.Entry.{Entry}
 use Rattle.hb_tables.specs.declared.entry.Verdict.{Verdict}
 use Rattle.hb_tables.specs.Answers.{Fixed}
-use Rattle.hb_tables.specs.History.{spot, times, journal, IsLegal, Learns}
+use Rattle.hb_tables.specs.History.{spot, times, IsLegal, Learns}
 use Rattle.hb_tables.specs.Names.{name_of}
 use Rattle.hb_tables.specs.Frames.{acts, KeepsHold}
 use Rattle.hb_tables.specs.Standing.{Stand, standing}
 use Rattle.hb_tables.specs.Rows.{site_in, declared_in, body_at, HoldsName, IsDecided}
-use Rattle.hb_tables.specs.Verdicts.{takes, subject, verdict_of, looks_of, as_fresh}
+use Rattle.hb_tables.specs.Verdicts.{takes, subject, verdict_of, looks_of}
 use Rattle.hb_tables.proofs.AddingLemmas.{own_stays}
 use Rattle.hb_tables.proofs.DeskLemmas.{learns_acts, learns_prefix}
 use Rattle.hb_tables.proofs.VerdictLemmas.{enters_of, ill_of}
 use Rattle.hb_call.specs.declared.answers.Answer.{Answer}
-use Rattle.hb_call.specs.Held.{HasRoom, Holds, stands}
+use Rattle.hb_call.specs.Held.{HasRoom, stands}
 use Rattle.hb_call.specs.Calling.{HasType, AreTrue, IsAmong, IsCalling, Given, IsAlike, answers_of}
 use Rattle.hb_call.specs.Deciding.{IsVerdictBy, told, type_declared}
 use Rattle.hb_call.proofs.RoomLemmas.{room_learns}

@@ -1,5 +1,5 @@
 -- Keys that a call holds, and gives back.
-use Rattle.std.proofs.Common.{◌≡◌, ℕ, suc, ◌+◌, ◌<◌, ◌≤◌, Bool, true, false, cond, eqb, List, [], ◌∷◌, ◌++◌, length, get_or, drop, map, sym, refl, ap, ◌∙◌, subst, arith, add-one, append_assoc, eq-eqb}
+use Rattle.std.proofs.Common.{◌≡◌, ℕ, ◌+◌, ◌<◌, ◌≤◌, Bool, true, false, cond, eqb, List, [], ◌∷◌, ◌++◌, length, get_or, drop, map, sym, refl, ap, ◌∙◌, subst, arith, add-one, append_assoc, eq-eqb}
 use mathlib.Core.List.{IsPrefix}
 use Rattle.std.proofs.lemmas.List.{append-nil}
 use Rattle.std.proofs.Math.Seq.{drop-cons}
@@ -12,7 +12,7 @@ use Rattle.hb_tables.specs.declared.entry.Act.{Act}
 use Rattle.hb_tables.specs.declared.entry.Act.TheVariants.{Free}
 use Rattle.hb_tables.specs.History.{Adds}
 use Rattle.hb_tables.specs.Frames.{acts}
-use Rattle.hb_tables.specs.Standing.{Stand, all_but, stand_done, standing_from, standing, count_of}
+use Rattle.hb_tables.specs.Standing.{Stand, all_but, standing_from, standing, count_of}
 use Rattle.hb_tables.proofs.DeskLemmas.{adds_stand, adds_prefix}
 use Rattle.hb_tables.proofs.FrontLemmas.{adds_act}
 use Rattle.hb_tables.proofs.StandingLemmas.{standing_append}

@@ -1,5 +1,5 @@
 -- A call that gives back all but its own key.
-use Rattle.std.proofs.Common.{◌≡◌, ℕ, ◌+◌, ◌-◌, ◌<◌, ◌≤◌, ◌⊎◌, inl, inr, Bool, true, false, cond, eqb, List, [], ◌∷◌, ◌++◌, length, map, take, drop, sym, refl, ap, ◌∙◌, subst, arith, eq-eqb, nat_eq}
+use Rattle.std.proofs.Common.{◌≡◌, ℕ, ◌+◌, ◌-◌, ◌<◌, ◌≤◌, inl, Bool, true, false, cond, eqb, List, [], ◌∷◌, ◌++◌, length, map, take, drop, sym, refl, ap, ◌∙◌, subst, arith, eq-eqb, nat_eq}
 use Rattle.std.proofs.lemmas.Bool.{eqb-true}
 use Rattle.std.specs.Prelude.{Option, ◌&&◌}
 use Rattle.std.specs.List.{AllByRecursion}
@@ -11,15 +11,13 @@ use Rattle.hb_tree.specs.Table.{Table}
 use Rattle.hb_names.specs.Names.{Name}
 use Rattle.hb_names.specs.declared.names.TheConstants.{NAMES_MAX}
 use Rattle.hb_tables.specs.declared.entry.Entry.{Entry}
-use Rattle.hb_tables.specs.declared.entry.Act.{Act}
-use Rattle.hb_tables.specs.declared.entry.Act.TheVariants.{Free}
 use Rattle.hb_tables.specs.Answers.{Fixed}
-use Rattle.hb_tables.specs.History.{spot, times, IsLegal}
+use Rattle.hb_tables.specs.History.{IsLegal}
 use Rattle.hb_tables.specs.Frames.{acts, KeepsHold}
 use Rattle.hb_tables.specs.Standing.{Stand, standing, standing_from, count_of}
 use Rattle.hb_tables.proofs.StandingLemmas.{standing_append, held_stands}
 use Rattle.hb_call.specs.declared.answers.Answer.{Answer}
-use Rattle.hb_call.specs.Held.{HasRoom, Holds, MayFree, frees, stands}
+use Rattle.hb_call.specs.Held.{HasRoom, MayFree, frees, stands}
 use Rattle.hb_call.specs.Calling.{HasType, IsCalling}
 use Rattle.hb_call.proofs.HeldLemmas.{may_free, freed_stands}
 use Rattle.hb_call.proofs.StayLemmas.{held_once, type_stays, acts_rest}

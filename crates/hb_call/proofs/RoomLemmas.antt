@@ -1,5 +1,5 @@
 -- Room for the calls of a caller at each key.
-use Rattle.std.proofs.Common.{◌≡◌, ◌≢◌, ℕ, ◌+◌, ◌≤◌, cond, List, [], ◌∷◌, ◌++◌, length, sym, refl, ap, ◌∙◌, subst, arith, eq-eqb}
+use Rattle.std.proofs.Common.{◌≡◌, ℕ, ◌+◌, ◌≤◌, List, [], ◌∷◌, ◌++◌, length, sym, refl, ap, ◌∙◌, subst, arith, eq-eqb}
 use Rattle.std.proofs.lemmas.List.{append-nil}
 use Rattle.hb_types.specs.declared.ids.KeyId.{KeyId}
 use Rattle.hb_types.specs.declared.ids.CallNo.{CallNo}
@@ -9,7 +9,7 @@ use Rattle.hb_tables.specs.declared.entry.TheConstants.{HOLDS_MAX}
 use Rattle.hb_tables.specs.declared.entry.Entry.{Entry}
 use Rattle.hb_tables.specs.declared.entry.Act.{Act}
 use Rattle.hb_tables.specs.declared.entry.Act.TheVariants.{Hold, Free, Call}
-use Rattle.hb_tables.specs.History.{Spot, spot, times, without, of_caller, entry, journal, key_of, done, Adds, Learns}
+use Rattle.hb_tables.specs.History.{Spot, spot, times, of_caller, entry, journal, key_of, done, Adds}
 use Rattle.hb_tables.proofs.HistoryLemmas.{journal_append, own_calls, own_times, spread}
 use Rattle.hb_tables.proofs.CallLemmas.{times_own, own_without, length_without}
 use Rattle.hb_tables.proofs.AddingLemmas.{none_without}

@@ -1,5 +1,5 @@
 -- The first Hold of a call.
-use Rattle.std.proofs.Common.{◌≡◌, ℕ, ◌<◌, ◌⊎◌, inl, inr, ⊎_elim, List, [], ◌∷◌, map, length, refl, sym, ap, ◌∙◌, arith}
+use Rattle.std.proofs.Common.{◌≡◌, ℕ, ◌<◌, inl, ⊎_elim, List, [], ◌∷◌, map, length, refl, ap, ◌∙◌, arith}
 use Rattle.std.specs.Prelude.{Option}
 use Rattle.hb_types.specs.declared.ids.KeyId.{KeyId}
 use Rattle.hb_types.specs.declared.ids.CallNo.{CallNo}

@@ -1,21 +1,20 @@
 -- What a call holds stays while it gives nothing back.
-use Rattle.std.proofs.Common.{◌≡◌, ℕ, ◌+◌, ◌≤◌, Bool, true, false, cond, eqb, List, [], ◌∷◌, ◌++◌, map, sym, refl, ap, ◌∙◌, subst, arith, eq-eqb, append_assoc}
-use Rattle.std.proofs.lemmas.List.{append-nil}
+use Rattle.std.proofs.Common.{◌≡◌, ℕ, ◌≤◌, List, [], ◌∷◌, ◌++◌, sym, refl, ap, ◌∙◌, subst, arith, eq-eqb}
 use Rattle.std.specs.Prelude.{Option}
 use mathlib.Core.List.{IsPrefix}
 use Rattle.hb_types.specs.declared.ids.KeyId.{KeyId}
 use Rattle.hb_types.specs.declared.ids.CallNo.{CallNo}
 use Rattle.hb_types.specs.declared.ids.TypeSite.{TypeSite}
 use Rattle.hb_tree.specs.Table.{Table}
-use Rattle.hb_names.specs.Names.{Name, place}
+use Rattle.hb_names.specs.Names.{Name}
 use Rattle.hb_names.proofs.NameLemmas.{place-longer}
 use Rattle.hb_tables.specs.declared.entry.Entry.{Entry}
 use Rattle.hb_tables.specs.declared.entry.Act.{Act}
-use Rattle.hb_tables.specs.declared.entry.Act.TheVariants.{Hold, Free}
-use Rattle.hb_tables.specs.History.{spot, times, journal, entry, IsLegal, Adds, Learns}
+use Rattle.hb_tables.specs.declared.entry.Act.TheVariants.{Hold}
+use Rattle.hb_tables.specs.History.{spot, times, journal, entry, IsLegal, Adds}
 use Rattle.hb_tables.specs.Names.{name_of}
 use Rattle.hb_tables.specs.Frames.{acts, KeepsHold}
-use Rattle.hb_tables.specs.Standing.{Stand, count_of}
+use Rattle.hb_tables.specs.Standing.{count_of}
 use Rattle.hb_tables.proofs.HistoryLemmas.{sound}
 use Rattle.hb_tables.proofs.FrameLemmas.{hold_stays, hold_keeps, held_since, acts_append}
 use Rattle.hb_tables.proofs.FrontLemmas.{acts_none}

@@ -1,5 +1,5 @@
 -- Whether a type takes arguments.
-use Rattle.std.proofs.Common.{◌≡◌, ◌≢◌, ℕ, ◌≤◌, Bool, true, false, List, length, take, sym, refl, ap, ◌∙◌, arith, nat_eq, ne_eqb, eq-eqb}
+use Rattle.std.proofs.Common.{◌≡◌, ◌≢◌, false, length, ap, ◌∙◌, arith, nat_eq, ne_eqb, eq-eqb}
 use Rattle.std.specs.Prelude.{◌&&◌}
 use Rattle.std.proofs.lemmas.List.{length-take-le}
 use Rattle.hb_types.specs.declared.types.MethodTy.{MethodTy}

@@ -22,7 +22,7 @@ use Rattle.hb_tables.specs.History.{entry}
 use Rattle.hb_tables.specs.Frames.{acts}
 use Rattle.hb_tables.specs.Rows.{IsDecided, body_at, kinds_of}
 use Rattle.hb_tables.specs.Verdicts.{verdict_of, looks_of, as_fresh}
-use Rattle.hb_call.specs.Reading.{Read, call_of, called}
+use Rattle.hb_call.specs.Reading.{call_of, called}
 use Rattle.hb_call.specs.Held.{stands}
 use Rattle.hb_call.specs.Calling.{Given, Begun}
 

@@ -1,4 +1,4 @@
-use Rattle.std.proofs.Common.{◌≡◌, ℕ, take, sym, ◌∙◌, ap}
+use Rattle.std.proofs.Common.{ℕ, take, sym, ◌∙◌, ap}
 use Rattle.hb_deriv.specs.Judge.{all_below}
 use Rattle.hb_tables.specs.Rows.{kinds_of}
 use Rattle.hb_call.proofs.TakesLemmas.{takes_not, takes_all}

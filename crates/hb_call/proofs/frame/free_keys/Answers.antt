@@ -1,7 +1,6 @@
-use Rattle.std.proofs.Common.{◌≡◌, ◌+◌, drop, get_or, refl, sym, ap, ◌∙◌, subst}
-use Rattle.hb_types.specs.declared.ids.KeyId.{KeyId}
+use Rattle.std.proofs.Common.{◌+◌, drop, get_or, sym, ap, ◌∙◌, subst}
 use Rattle.hb_tables.specs.declared.entry.Act.TheVariants.{Free}
-use Rattle.hb_tables.specs.History.{Adds, IsLegal, spot, times}
+use Rattle.hb_tables.specs.History.{Adds, IsLegal}
 use Rattle.hb_tables.specs.Answers.{Fixed}
 use Rattle.hb_tables.proofs.StandingLemmas.{held_stands}
 use Rattle.hb_call.specs.Held.{MayFree, stands}

@@ -1,6 +1,6 @@
-use Rattle.std.proofs.Common.{subst, sym, ◌∙◌, ap, ◌++◌}
+use Rattle.std.proofs.Common.{◌∙◌, ap, ◌++◌}
 use Rattle.hb_tables.specs.Frames.{acts}
-use Rattle.hb_call.specs.Held.{MayFree, frees, stands}
+use Rattle.hb_call.specs.Held.{frees}
 use Rattle.hb_call.proofs.HeldLemmas.{all_stand, none_stand}
 use Rattle.hb_call.proofs.frame.leave.Goals as goal
 

@@ -1,4 +1,3 @@
-use Rattle.std.proofs.Common.{refl}
 use Rattle.hb_call.proofs.CallingLemmas.{named_on}
 use Rattle.hb_call.proofs.call.Call.answer.Goals as goal
 

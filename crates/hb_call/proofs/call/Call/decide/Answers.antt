@@ -1,13 +1,12 @@
-use Rattle.std.proofs.Common.{◌≡◌, ℕ, List, Some, refl, sym, ap, ◌∙◌, subst}
-use mathlib.Core.List.{IsPrefix}
+use Rattle.std.proofs.Common.{◌≡◌, Some, sym, ap, ◌∙◌, subst}
 use Rattle.hb_types.specs.declared.ids.KeyId.{KeyId}
 use Rattle.hb_names.specs.Names.{place}
 use Rattle.hb_names.proofs.NameLemmas.{place-longer}
 use Rattle.hb_tables.specs.Answers.{IsLookAt}
-use Rattle.hb_tables.specs.History.{IsLegal, Learns}
+use Rattle.hb_tables.specs.History.{IsLegal}
 use Rattle.hb_tables.specs.Rows.{kinds_of}
 use Rattle.hb_call.specs.Alike.{alike_on}
-use Rattle.hb_call.specs.Calling.{Given, Goes, IsAlike, IsArgKinds}
+use Rattle.hb_call.specs.Calling.{Given, Goes, IsArgKinds}
 use Rattle.hb_call.proofs.HeldLemmas.{prefix_on}
 use Rattle.hb_call.proofs.DecidingLemmas.{learned, alike_learns}
 use Rattle.hb_call.proofs.DecideLemmas.{on_err, call_holds, call_decided}

@@ -1,8 +1,6 @@
-use Rattle.std.proofs.Common.{◌≡◌, ◌++◌, length, take, drop, ◌-◌, [], ◌∷◌, refl, sym, ap, ◌∙◌, subst}
-use Rattle.hb_tables.specs.Answers.{Fixed}
+use Rattle.std.proofs.Common.{◌≡◌, ◌++◌, [], sym, ap, ◌∙◌, subst}
 use Rattle.hb_tables.specs.Frames.{acts}
-use Rattle.hb_tables.specs.History.{IsLegal}
-use Rattle.hb_call.specs.Held.{HasRoom, MayFree, frees, stands}
+use Rattle.hb_call.specs.Held.{MayFree, frees, stands}
 use Rattle.hb_call.specs.Calling.{IsCalling}
 use Rattle.hb_call.proofs.BegunLemmas.{alike_frees}
 use Rattle.hb_call.proofs.RetreatLemmas.{others_may, retreated, are_others, tail_of, head_of}

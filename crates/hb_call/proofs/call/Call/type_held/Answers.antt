@@ -1,12 +1,8 @@
-use Rattle.std.proofs.Common.{◌≡◌, ◌<◌, ◌++◌, ◌∷◌, [], length, refl, sym, ap, ◌∙◌, subst, Some, None}
-use Rattle.std.specs.Prelude.{Option, ℕ}
-use Rattle.hb_types.specs.declared.ids.KeyId.{KeyId}
-use Rattle.hb_types.specs.declared.ids.TypeSite.{TypeSite}
-use Rattle.hb_tables.specs.Answers.{Fixed}
-use Rattle.hb_tables.specs.History.{Adds, IsLegal, spot, times, of_caller}
-use Rattle.hb_tables.specs.declared.entry.TheConstants.{HOLDS_MAX}
+use Rattle.std.proofs.Common.{◌≡◌, refl, sym, ap, ◌∙◌, subst, Some, None}
+use Rattle.std.specs.Prelude.{ℕ}
+use Rattle.hb_tables.specs.History.{Adds, IsLegal}
 use Rattle.hb_tables.specs.declared.entry.Act.TheVariants.{Hold}
-use Rattle.hb_call.specs.Calling.{HasType, IsCalling, type_among}
+use Rattle.hb_call.specs.Calling.{HasType, type_among}
 use Rattle.hb_call.proofs.BegunLemmas.{alike_hold}
 use Rattle.hb_call.proofs.StayLemmas.{hold_finds}
 use Rattle.hb_call.proofs.CallingLemmas.{noted, not_held, has_room, holding, type_found, site_below}

@@ -1,4 +1,4 @@
-use Rattle.std.proofs.Common.{◌≡◌, refl, sym, ap, ◌∙◌, subst, Some}
+use Rattle.std.proofs.Common.{sym, ◌∙◌, subst}
 use Rattle.hb_tables.specs.Rows.{kinds_of}
 use Rattle.hb_call.specs.Calling.{Given, answers_of}
 use Rattle.hb_call.specs.Deciding.{IsVerdictBy}
