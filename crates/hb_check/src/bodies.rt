@@ -46,6 +46,8 @@ pub fn check<L: Lookup>(
     requires declared { declared.0 < length prog.now.types }
     requires unanswered { L.answers look.old ≡ [] }
     requires unrefused { L.refused look.old ≡ None }
+    requires ready { L.ready look.old }
+    ensures ready { L.ready look.new }
     ensures alike { L.alike look.old look.new }
     ensures answers { Answers prog.now class.0 body.0 declared.0 (L.answers look.new) (L.refused look.new) result }
 {

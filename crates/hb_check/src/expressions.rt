@@ -39,7 +39,9 @@ pub fn check_node<L: Lookup>(
     notes: &mut Notes,
     look: &mut L,
 ) -> Result<Ty, Stop>
-    requires { id.0 < length scene.prog.now.nodes }
+    requires within { id.0 < length scene.prog.now.nodes }
+    requires ready { L.ready look.old }
+    ensures ready { L.ready look.new }
     ensures alike { L.alike look.old look.new }
     ensures checks { Checks scene.entry.prog.now scene.entry.class.0 (tree_at scene.entry.prog.now id.0) env.old
         (state (L.answers look.old) (L.refused look.old) notes.old)
@@ -99,6 +101,8 @@ fn check_assign<L: Lookup>(
 ) -> Result<Ty, Stop>
     requires within { id.0 < length scene.prog.now.nodes }
     requires below { value.0 < id.0 }
+    requires ready { L.ready look.old }
+    ensures ready { L.ready look.new }
     ensures alike { L.alike look.old look.new }
     ensures checks { Checks scene.entry.prog.now scene.entry.class.0 (TAssign id.0 name.0 (tree_at scene.entry.prog.now value.0)) env.old
         (state (L.answers look.old) (L.refused look.old) notes.old)
@@ -122,6 +126,8 @@ fn check_part<L: Lookup>(
 ) -> Result<Ty, Stop>
     requires within { id.0 < length scene.prog.now.nodes }
     requires below { part.0 < id.0 }
+    requires ready { L.ready look.old }
+    ensures ready { L.ready look.new }
     ensures alike { L.alike look.old look.new }
     ensures checks { ChecksPart scene.entry.prog.now scene.entry.class.0 id.0 (tree_at scene.entry.prog.now part.0) ty env.old
         (state (L.answers look.old) (L.refused look.old) notes.old)
@@ -145,6 +151,8 @@ fn check_binary<L: Lookup>(
     requires within { id.0 < length scene.prog.now.nodes }
     requires left { left.0 < id.0 }
     requires right { right.0 < id.0 }
+    requires ready { L.ready look.old }
+    ensures ready { L.ready look.new }
     ensures alike { L.alike look.old look.new }
     ensures checks { Checks scene.entry.prog.now scene.entry.class.0
         (TBinary id.0 op (tree_at scene.entry.prog.now left.0) (tree_at scene.entry.prog.now right.0)) env.old
@@ -171,6 +179,8 @@ fn check_if<L: Lookup>(
     requires condition { condition.0 < id.0 }
     requires then { then.0 < id.0 }
     requires other { other.0 < id.0 }
+    requires ready { L.ready look.old }
+    ensures ready { L.ready look.new }
     ensures alike { L.alike look.old look.new }
     ensures checks { Checks scene.entry.prog.now scene.entry.class.0
         (TIf id.0 (tree_at scene.entry.prog.now condition.0) (tree_at scene.entry.prog.now then.0) (tree_at scene.entry.prog.now other.0)) env.old
@@ -198,6 +208,8 @@ fn check_while<L: Lookup>(
     requires within { id.0 < length scene.prog.now.nodes }
     requires condition { condition.0 < id.0 }
     requires turn { turn.0 < id.0 }
+    requires ready { L.ready look.old }
+    ensures ready { L.ready look.new }
     ensures alike { L.alike look.old look.new }
     ensures checks { Checks scene.entry.prog.now scene.entry.class.0
         (TWhile id.0 (tree_at scene.entry.prog.now condition.0) (tree_at scene.entry.prog.now turn.0)) env.old
@@ -228,6 +240,8 @@ fn check_call<L: Lookup>(
     requires receiver { receiver.0 < id.0 }
     requires args { All (λ i. i.0 < id.0) args.now }
     requires few { length args.now ≤ ARGUMENTS_MAX }
+    requires ready { L.ready look.old }
+    ensures ready { L.ready look.new }
     ensures alike { L.alike look.old look.new }
     ensures checks { Checks scene.entry.prog.now scene.entry.class.0
         (TCall id.0 (tree_at scene.entry.prog.now receiver.0) name.0 (forest_at (tree_at scene.entry.prog.now) args.now)) env.old
@@ -253,6 +267,8 @@ fn check_args<L: Lookup>(
     requires within { id.0 < length scene.prog.now.nodes }
     requires args { All (λ i. i.0 < id.0) args.now }
     requires few { length args.now ≤ ARGUMENTS_MAX }
+    requires ready { L.ready look.old }
+    ensures ready { L.ready look.new }
     ensures alike { L.alike look.old look.new }
     ensures checks { ChecksArgs scene.entry.prog.now scene.entry.class.0 (forest_at (tree_at scene.entry.prog.now) args.now) env.old []
         (state (L.answers look.old) (L.refused look.old) notes.old)
@@ -278,6 +294,8 @@ fn check_method<L: Lookup>(
 ) -> Result<Ty, Stop>
     requires within { id.0 < length scene.prog.now.nodes }
     requires below { AllByRecursion (λ j. j < id.0) (name_parts method) }
+    requires ready { L.ready look.old }
+    ensures ready { L.ready look.new }
     ensures alike { L.alike look.old look.new }
     ensures checks { ChecksMethod scene.entry.prog.now scene.entry.class.0 id.0 method ty env.old
         (state (L.answers look.old) (L.refused look.old) notes.old)
@@ -301,7 +319,9 @@ fn check_items<L: Lookup>(
     notes: &mut Notes,
     look: &mut L,
 ) -> Result<Ty, Stop>
-    requires { IsBlockAt scene.prog.now block.0 }
+    requires block { IsBlockAt scene.prog.now block.0 }
+    requires ready { L.ready look.old }
+    ensures ready { L.ready look.new }
     ensures alike { L.alike look.old look.new }
     ensures checks { Checks scene.entry.prog.now scene.entry.class.0 (tree_at scene.entry.prog.now block.0) env.old
         (state (L.answers look.old) (L.refused look.old) notes.old)

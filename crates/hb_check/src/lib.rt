@@ -9,3 +9,4 @@ mod notes;
 mod rules;
 
 pub use bodies::{Checked, check};
+pub use rules::all_below;

@@ -28,6 +28,8 @@ pub fn method_of<L: Lookup>(
     notes: &mut Notes,
     look: &mut L,
 ) -> Result<MethodTy, Stop>
+    requires ready { L.ready look.old }
+    ensures ready { L.ready look.new }
     ensures alike { L.alike look.old look.new }
     ensures runs { (G : Variables) → Runs (sites_of prog.now)
         (λ types. method_of types node.0 name.0 G receiver) (λ types. look_at node.0 (keys_of receiver name.0)) [] G
@@ -54,6 +56,8 @@ fn method_type<L: Lookup>(
     notes: &mut Notes,
     look: &mut L,
 ) -> Result<MethodTy, Stop>
+    requires ready { L.ready look.old }
+    ensures ready { L.ready look.new }
     ensures alike { L.alike look.old look.new }
     ensures runs { (G : Variables) → Runs (sites_of prog.now)
         (λ types. with_type node.0 G (types (class.0, name.0))) (λ types. Look node.0 (class.0, name.0) ∷ []) [] G
@@ -77,6 +81,8 @@ fn ask<L: Lookup>(
     notes: &mut Notes,
     look: &mut L,
 ) -> Result<MethodTy, Stop>
+    requires ready { L.ready look.old }
+    ensures ready { L.ready look.new }
     ensures alike { L.alike look.old look.new }
     ensures runs { site_among notes.old.uses.items (class.0, name.0) ≡ None → (G : Variables) → Runs (sites_of prog.now)
         (λ types. with_type node.0 G (types (class.0, name.0))) (λ types. Look node.0 (class.0, name.0) ∷ []) [] G

@@ -36,6 +36,9 @@ pub trait Lookup {
 
     ghost bound_stays: { (a b : Self) → alike a b → bound a ≡ bound b };
 
+    /// It may be asked.
+    ghost ready: { Self → Type 0 };
+
     /// The `type` or `type?` that gives the method its type, or None where it has none.
     fn type_of(
         &mut self,
@@ -43,6 +46,8 @@ pub trait Lookup {
         class: ClassId,
         name: NameId,
     ) -> Result<Option<TypeSite>, LookFail>
+        requires ready { ready self.old }
+        ensures ready { ready self.new }
         ensures alike { alike self.old self.new }
         ensures below { IfOk result (λ site. IfSome site (λ s. s.0 < bound self.old)) }
         ensures answer { IfOk result (λ site. (answers self.new ≡ answers self.old ++ asked class name site ∷ []) × (refused self.new ≡ refused self.old)) }

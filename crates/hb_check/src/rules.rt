@@ -58,8 +58,8 @@ pub fn fitting(args: &[Ty], method: &MethodTy) -> Result<Ty, Reason>
     }
 }
 
-// Whether each type is below the limit in its place.
-fn all_below(types: &[Ty], limits: &[Ty]) -> bool
+/// Whether each type is below the limit in its place.
+pub fn all_below(types: &[Ty], limits: &[Ty]) -> bool
     requires { length types.now ≡ length limits.now }
     ensures { result ≡ all_below types.now limits.now }
 {

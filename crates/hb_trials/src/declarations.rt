@@ -78,6 +78,8 @@ impl Lookup for Declarations {
 
     ghost bound_stays = { λ a b e. refl };
 
+    ghost ready = { λ _. Unit {0} };
+
     fn type_of(
         &mut self,
         alloc: Global,

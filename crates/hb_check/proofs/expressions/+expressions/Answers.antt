@@ -207,6 +207,7 @@ check_items-loop-item-preserved g t c =
     let part = tree_at c.args.scene.prog.now in
     let next = forest_next part c.items-item-items.result.now c.loop-item.item-index (record { 0 = 0 }) c.loop-item-test.true in
     record {
+      ready = c.in_ok-last.ensures.ready;
       alike = g.L.Lookup.alike_on _ _ _ c.loop-item.invariant.alike c.in_ok-last.ensures.alike;
       leads = record { on = λ new result rest. c.loop-item.invariant.leads.on new result (rw next (runs_then _ _ c.in_ok-last.ensures.checks rest)) };
     }
@@ -224,6 +225,7 @@ check_args-loop-arg-preserved g t c =
     let part = tree_at c.args.scene.prog.now in
     let next = forest_next part c.args.args.now c.loop-arg.arg-index (record { 0 = 0 }) c.loop-arg-test.true in
     record {
+      ready = c.in_ok-check_node.ensures.ready;
       alike = g.L.Lookup.alike_on _ _ _ c.loop-arg.invariant.alike c.in_ok-check_node.ensures.alike;
       count = let same = length-append c.loop-arg.types.items (c.in_ok-check_node.field-0 ∷ []) in rw c.push.ensures.items (omega (arith, same, c.loop-arg.invariant.count));
       leads = record { on = λ new result rest. c.loop-arg.invariant.leads.on new result (rw next (runs_then _ _ c.in_ok-check_node.ensures.checks (rw c.push.ensures.items at rest))) };

@@ -1,0 +1,73 @@
+use Rattle.std.proofs.Common.{◌≡◌, refl, sym, ap, ◌∙◌, subst, Some, None}
+use Rattle.std.specs.Prelude.{ℕ}
+use Rattle.hb_tables.specs.History.{Adds, IsLegal}
+use Rattle.hb_tables.specs.declared.entry.Act.TheVariants.{Hold}
+use Rattle.hb_call.specs.Calling.{HasType, type_among}
+use Rattle.hb_call.proofs.BegunLemmas.{alike_hold}
+use Rattle.hb_call.proofs.StayLemmas.{hold_finds}
+use Rattle.hb_call.proofs.CallingLemmas.{noted, not_held, has_room, holding, type_found, site_below}
+use Rattle.hb_call.proofs.call.Call.type_held.Goals as goal
+
+pub returns-then-key-self-clause-with_answer : goal.returns-then-key-self-clause-with_answer
+returns-then-key-self-clause-with_answer g c class name place =
+    let s = c.args.self.now in let h = c.requires.calling in
+    noted s.prog.now (g.D.Desk.fixed s.desk.now) s.q _ _ s.key s.own s.held.items s.answers.items h (record { class = class; name = name; key = c.args.key; site = s.own }) place
+    (subst (λ (k : ℕ). HasType (g.D.Desk.front s.desk.now) ((g.D.Desk.fixed s.desk.now).caller, s.q.0) k s.own) (sym c.if-key-self.true) h.own_is)
+
+pub returns-then-key-self-clause-below : goal.returns-then-key-self-clause-below
+returns-then-key-self-clause-below g c = let s = c.args.self.now in let h = c.requires.calling in site_below (g.D.Desk.fixed s.desk.now).limit s.key.0 (g.D.Desk.front s.desk.now) s.own h.legal h.own_is.1
+
+pub returns-in-Some-clause-with_answer : goal.returns-in-Some-clause-with_answer
+returns-in-Some-clause-with_answer g c class name place =
+    let s = c.args.self.now in let h = c.requires.calling in
+    let is : Some c.in-Some.site ≡ type_among s.answers.items c.args.key.0 = sym c.in-Some.is ∙ c.found.ensures ∙ ap (λ l. type_among l c.args.key.0) c.deref.ensures.value in
+    noted s.prog.now (g.D.Desk.fixed s.desk.now) s.q _ _ s.key s.own s.held.items s.answers.items h (record { class = class; name = name; key = c.args.key; site = c.in-Some.site }) place
+    (type_found s.prog.now (g.N.Names.known s.names.now) (g.D.Desk.front s.desk.now) ((g.D.Desk.fixed s.desk.now).caller, s.q.0) s.answers.items c.args.key.0 c.in-Some.site h.answered is)
+
+pub returns-in-Some-clause-below : goal.returns-in-Some-clause-below
+returns-in-Some-clause-below g c =
+    let s = c.args.self.now in let h = c.requires.calling in
+    let is : Some c.in-Some.site ≡ type_among s.answers.items c.args.key.0 = sym c.in-Some.is ∙ c.found.ensures ∙ ap (λ l. type_among l c.args.key.0) c.deref.ensures.value in
+    site_below (g.D.Desk.fixed s.desk.now).limit c.args.key.0 (g.D.Desk.front s.desk.now) c.in-Some.site h.legal
+    (type_found s.prog.now (g.N.Names.known s.names.now) (g.D.Desk.front s.desk.now) ((g.D.Desk.fixed s.desk.now).caller, s.q.0) s.answers.items c.args.key.0 c.in-Some.site h.answered is).1
+
+pub hold-site-requires-clause-free : goal.hold-site-requires-clause-free
+hold-site-requires-clause-free g c =
+    let s = c.args.self.now in let h = c.requires.calling in
+    let is : None ≡ type_among s.answers.items c.args.key.0 = sym c.in_default.is ∙ c.found.ensures ∙ ap (λ l. type_among l c.args.key.0) c.deref.ensures.value in
+    rw (c.reserve-2.ensures.fixed, c.reserve-2.ensures.front) (not_held s.prog.now (g.D.Desk.fixed s.desk.now) s.q _ _ s.key s.own s.held.items s.answers.items h c.args.key.0 c.if-key-self.false is)
+
+pub hold-site-requires-clause-few : goal.hold-site-requires-clause-few
+hold-site-requires-clause-few g c =
+    let s = c.args.self.now in let h = c.requires.calling in
+    let is : None ≡ type_among s.answers.items c.args.key.0 = sym c.in_default.is ∙ c.found.ensures ∙ ap (λ l. type_among l c.args.key.0) c.deref.ensures.value in
+    let none = not_held s.prog.now (g.D.Desk.fixed s.desk.now) s.q _ _ s.key s.own s.held.items s.answers.items h c.args.key.0 c.if-key-self.false is in
+    rw (c.reserve-2.ensures.fixed, c.reserve-2.ensures.front) (has_room s.prog.now (g.D.Desk.fixed s.desk.now) s.q _ _ s.key s.own s.held.items s.answers.items h c.args.key.0 none)
+
+pub returns-clause-with_answer : goal.returns-clause-with_answer
+returns-clause-with_answer g c class name place =
+    let s = c.args.self.now in let h = c.requires.calling in let door = g.D.Desk.fixed s.desk.now in
+    let old = g.D.Desk.front s.desk.now in let new = g.D.Desk.front c.hold-site.new.self in
+    let is : None ≡ type_among s.answers.items c.args.key.0 = sym c.in_default.is ∙ c.found.ensures ∙ ap (λ l. type_among l c.args.key.0) c.deref.ensures.value in
+    let none = not_held s.prog.now door s.q _ _ s.key s.own s.held.items s.answers.items h c.args.key.0 c.if-key-self.false is in
+    let same : g.D.Desk.fixed c.hold-site.new.self ≡ door = c.hold-site.ensures.fixed ∙ c.reserve-2.ensures.fixed in
+    let adds : Adds door.caller old new (Hold s.q c.args.key c.hold-site.result.ty c.hold-site.result.changes) = rw (c.reserve-2.ensures.fixed, c.reserve-2.ensures.front) at c.hold-site.ensures.entry in
+    let legal : IsLegal door.limit new = rw (c.reserve-2.ensures.fixed) at c.hold-site.ensures.legal in
+    rw (same, c.push_reserved.ensures.items, c.in_ok-reserve.ensures.items)
+    (holding s.prog.now door s.q _ old s.key s.own s.held.items s.answers.items h new c.args.key c.hold-site.result.ty c.hold-site.result.changes (record { class = class; name = name; key = c.args.key; site = c.hold-site.result.ty }) adds legal none c.requires.below refl refl place)
+
+pub returns-clause-alike : goal.returns-clause-alike
+returns-clause-alike g c =
+    let s = c.args.self.now in let door = g.D.Desk.fixed s.desk.now in
+    let old = g.D.Desk.front s.desk.now in let new = g.D.Desk.front c.hold-site.new.self in
+    let same : g.D.Desk.fixed c.hold-site.new.self ≡ door = c.hold-site.ensures.fixed ∙ c.reserve-2.ensures.fixed in
+    let adds : Adds door.caller old new (Hold s.q c.args.key c.hold-site.result.ty c.hold-site.result.changes) = rw (c.reserve-2.ensures.fixed, c.reserve-2.ensures.front) at c.hold-site.ensures.entry in
+    alike_hold _ (g.D.Desk.fixed c.hold-site.new.self) (g.N.Names.known s.names.now) old new c.args.key c.hold-site.result.ty c.hold-site.result.changes same adds
+
+pub returns-clause-below : goal.returns-clause-below
+returns-clause-below g c =
+    let s = c.args.self.now in let door = g.D.Desk.fixed s.desk.now in
+    let old = g.D.Desk.front s.desk.now in let new = g.D.Desk.front c.hold-site.new.self in
+    let adds : Adds door.caller old new (Hold s.q c.args.key c.hold-site.result.ty c.hold-site.result.changes) = rw (c.reserve-2.ensures.fixed, c.reserve-2.ensures.front) at c.hold-site.ensures.entry in
+    let legal : IsLegal door.limit new = rw (c.reserve-2.ensures.fixed) at c.hold-site.ensures.legal in
+    site_below door.limit c.args.key.0 new c.hold-site.result.ty legal (hold_finds door.limit door.caller s.q c.args.key c.hold-site.result.ty c.hold-site.result.changes old new adds legal)

@@ -1,0 +1,62 @@
+-- What the entry into a call comes to.
+use Rattle.std.specs.Prelude.{◌≡◌, ℕ, List, [], ◌++◌, Option, Some, Result, Ok, Err}
+use mathlib.Core.List.{IsPrefix}
+use Rattle.hb_types.specs.declared.ids.CallNo.{CallNo}
+use Rattle.hb_types.specs.declared.ids.ClassId.{ClassId}
+use Rattle.hb_types.specs.declared.ids.KeyId.{KeyId}
+use Rattle.hb_types.specs.declared.ids.BodySite.{BodySite}
+use Rattle.hb_tree.specs.Table.{Table}
+use Rattle.hb_names.specs.Names.{Name, place}
+use Rattle.hb_tables.specs.declared.entry.ArgKinds.{ArgKinds}
+use Rattle.hb_tables.specs.declared.entry.Entry.{Entry}
+use Rattle.hb_tables.specs.declared.entry.Verdict.{Verdict}
+use Rattle.hb_tables.specs.declared.entry.Verdict.TheVariants as verdict
+use Rattle.hb_tables.specs.Answers.{Fixed}
+use Rattle.hb_tables.specs.Frames.{acts}
+use Rattle.hb_tables.specs.Rows.{kinds_of}
+use Rattle.hb_call.specs.declared.frame.CallFail.{CallFail}
+use Rattle.hb_call.specs.declared.frame.Entered.{Entered}
+use Rattle.hb_call.specs.declared.frame.Entered.TheVariants as entered
+use Rattle.hb_call.specs.Held.{Holds, frees, stands}
+use Rattle.hb_call.specs.Calling.{Begun, Given}
+use Rattle.hb_call.specs.Deciding.{Decided}
+
+-- who calls what, with which arguments
+pub record Asks : Type 0 where
+  pub t : Table
+  pub door : Fixed
+  pub q : CallNo
+  pub class : ClassId
+  pub bytes : List ℕ
+  pub args : ArgKinds
+
+-- The call was decided with this verdict on this definition, and holds these keys then.
+pub record IsDecidedOf (a : Asks) (names : List Name) (old mid : List Entry) (key : KeyId) (v : Verdict) (site : Option BodySite) (held : List KeyId) : Type 0 where
+  pub given : Given
+  pub program : given.t ≡ a.t
+  pub door : given.door ≡ a.door
+  pub q : given.q ≡ a.q
+  pub class : given.class ≡ a.class
+  pub args : given.args ≡ a.args
+  pub called : given.key ≡ key
+  pub named : place names (a.class.0, a.bytes) ≡ Some key.0
+  pub first : List Entry
+  pub begun : Begun given.door.caller given.q given.key (kinds_of given.args) old first
+  pub decided : Decided given names first mid v site
+  pub holds : Holds a.door.caller a.q.0 held mid
+
+-- The call was refused: it gave back all that it held.
+pub record IsRefused (a : Asks) (names : List Name) (old new : List Entry) (v : Verdict) : Type 0 where
+  pub mid : List Entry
+  pub key : KeyId
+  pub site : Option BodySite
+  pub held : List KeyId
+  pub decided : IsDecidedOf a names old mid key v site held
+  pub kept : IsPrefix mid new
+  pub freed : acts a.door.caller new ≡ acts a.door.caller mid ++ frees a.q held
+  pub none : stands a.door.caller a.q.0 new ≡ []
+
+abbrev pub Enters : Asks → List Name → List Entry → List Entry → Result Entered CallFail → Type 0
+Enters a names old new (Ok (entered.Frame f way)) = (f.q ≡ a.q) × IsDecidedOf a names old new f.key (verdict.Enter way) (Some f.body) f.held.items
+Enters a names old new (Ok (entered.Refused v)) = IsRefused a names old new v
+Enters a names old new (Err cause) = stands a.door.caller a.q.0 new ≡ []

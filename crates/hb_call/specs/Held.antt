@@ -1,0 +1,37 @@
+-- What a call holds.
+use Rattle.std.specs.Prelude.{◌≡◌, ℕ, ◌+◌, ◌<◌, ◌≤◌, List, [], ◌∷◌, length, map}
+use Rattle.std.specs.List.{AllByRecursion}
+use Rattle.hb_types.specs.declared.ids.CallNo.{CallNo}
+use Rattle.hb_types.specs.declared.ids.KeyId.{KeyId}
+use Rattle.hb_names.specs.declared.names.TheConstants.{NAMES_MAX}
+use Rattle.hb_tables.specs.declared.entry.Entry.{Entry}
+use Rattle.hb_tables.specs.declared.entry.Act.{Act}
+use Rattle.hb_tables.specs.declared.entry.Act.TheVariants.{Free}
+use Rattle.hb_tables.specs.declared.entry.TheConstants.{HOLDS_MAX}
+use Rattle.hb_tables.specs.History.{spot, times, of_caller}
+use Rattle.hb_tables.specs.Frames.{acts}
+use Rattle.hb_tables.specs.Standing.{Stand, all_but, standing, count_of}
+
+-- the Holds of the call q by the caller c that stand
+abbrev pub stands : ℕ → ℕ → List Entry → List Stand
+stands c q log = standing q (acts c log)
+
+-- The call q of the caller c holds exactly these keys, in the order of its Holds. They differ, and stand for names.
+pub record Holds (c q : ℕ) (held : List KeyId) (log : List Entry) : Type 0 where
+  pub keys : map (λ h. h.key) (stands c q log) ≡ map (λ k. k.0) held
+  pub once : (k : ℕ) → count_of k (stands c q log) ≤ 1
+  pub below : AllByRecursion (λ k. k.0 < NAMES_MAX) held
+
+-- the Frees of these keys by a call, in their order
+abbrev pub frees : CallNo → List KeyId → List Act
+frees q [] = []
+frees q (key ∷ keys) = Free q key ∷ frees q keys
+
+-- these keys may be freed one after another, where these Holds stand
+abbrev pub MayFree : List KeyId → List Stand → Type 0
+MayFree [] hs = Unit {0}
+MayFree (key ∷ keys) hs = (key.0 < NAMES_MAX) × (count_of key.0 hs ≡ 1) × MayFree keys (all_but key.0 hs)
+
+-- There is room for one more call of the caller at each key that the call does not hold.
+abbrev pub HasRoom : List Entry → ℕ → ℕ → Type 0
+HasRoom log c q = (k : ℕ) → length (of_caller c (spot k log).calls) + 1 ≤ HOLDS_MAX + times (c, q) (spot k log).calls
