@@ -13,7 +13,8 @@ use Rattle.hb_tree.specs.Table.{Table}
 use Rattle.hb_names.specs.Names.{Name, place}
 use Rattle.hb_names.proofs.NameLemmas.{place-longer}
 use Rattle.hb_names.specs.declared.names.TheConstants.{NAMES_MAX}
-use Rattle.hb_tables.specs.declared.entry.TheConstants.{TYPES_MAX, HOLDS_MAX}
+use Rattle.hb_tree.specs.declared.limits.TheConstants.{TYPES_MAX}
+use Rattle.hb_tables.specs.declared.entry.TheConstants.{HOLDS_MAX}
 use Rattle.hb_tables.specs.declared.entry.Entry.{Entry}
 use Rattle.hb_tables.specs.declared.entry.Act.TheVariants.{Hold}
 use Rattle.hb_tables.specs.Answers.{Fixed}

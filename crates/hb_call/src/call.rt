@@ -22,7 +22,8 @@ use hb_check::lookup::{LookFail, Lookup};
 use hb_check::{Checked, all_below, check};
 use hb_names::{NAMES_MAX, NameFail, Names};
 use hb_tables::desk::{Desk, Look};
-use hb_tables::entry::{ArgKinds, By, TYPES_MAX, Verdict};
+use hb_tables::entry::{ArgKinds, By, Verdict};
+use hb_tree::limits::TYPES_MAX;
 use hb_tree::program::Program;
 use hb_types::ids::{BodySite, CallNo, ClassId, KeyId, NameId, TypeSite};
 use hb_types::types::MethodTy;
@@ -238,7 +239,7 @@ fn takes(ty: &MethodTy, args: &ArgKinds) -> bool
 
 impl<D: Desk, N: Names> Lookup for Call<'_, '_, '_, D, N> {
     ghost use Rattle.std.proofs.Common.{refl};
-    ghost use Rattle.hb_tables.specs.declared.entry.TheConstants.{TYPES_MAX};
+    ghost use Rattle.hb_tree.specs.declared.limits.TheConstants.{TYPES_MAX};
     ghost use Rattle.hb_call.specs.Calling.{IsCalling, IsAlike, answers_of, refusal_of};
     ghost use Rattle.hb_call.specs.Alike.{alike_itself, alike_on};
 
