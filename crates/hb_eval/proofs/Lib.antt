@@ -1,2 +1,4 @@
 pub mod PrintLemmas
 pub mod Examples
+pub mod FuelLemmas
+pub mod VariableLemmas

@@ -5,3 +5,6 @@ pub mod Methods
 pub mod State
 pub mod Meaning
 pub mod Runs
+pub mod Fuel
+pub mod Machine
+pub mod Steps

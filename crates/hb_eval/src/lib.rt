@@ -2,9 +2,16 @@
 #![tactic(auto)]
 
 pub mod arguments;
+pub mod cont;
+mod moves;
 pub mod operators;
 pub mod printed;
 pub mod spelling;
+pub mod state;
+mod steps;
 pub mod stop;
+#[cfg(test)]
+mod tests;
 pub mod text;
 pub mod value;
+mod vars;
