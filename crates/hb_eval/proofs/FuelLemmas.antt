@@ -1,5 +1,5 @@
 -- Fuel falls at each expression, so a loop has turns enough.
-use Rattle.std.proofs.Common.{◌≡◌, ℕ, zero, suc, ◌+◌, ◌-◌, ◌<◌, ◌≤◌, ◌≢◌, List, [], ◌∷◌, ◌++◌, length, Option, Some, None, Bool, true, false, refl, ap, ◌∙◌, arith, nat_eq, nat_le, ⊎_elim}
+use Rattle.std.proofs.Common.{◌≡◌, ℕ, zero, suc, ◌+◌, ◌-◌, ◌<◌, ◌≤◌, ◌≢◌, List, [], ◌∷◌, ◌++◌, length, Option, Some, None, Bool, true, false, refl, ap, arith, nat_eq, nat_le, ⊎_elim}
 use Rattle.std.specs.Prelude.{if◌then◌else◌, Result, Ok, Err}
 use Rattle.std.proofs.lemmas.Bool.{eqb-false}
 use Rattle.std.proofs.lemmas.Bool.Decides.{eqb_tells}
@@ -20,7 +20,7 @@ use Rattle.hb_eval.specs.Values.{is_false}
 use Rattle.hb_eval.specs.Printing.{print_line, shown}
 use Rattle.hb_eval.specs.Operators.{operate}
 use Rattle.hb_eval.specs.State.{St, Answer, Lost, Done, Halt, then_do, gives, begin, value_at, meant, next_entry, read_entry, reads}
-use Rattle.hb_eval.specs.Methods.{named, is_name, with_key, keyed, define_meaning, declare_meaning, define, declare}
+use Rattle.hb_eval.specs.Methods.{named, is_name, with_key, define_meaning, declare_meaning, define, declare}
 use Rattle.hb_eval.specs.Meaning.{Calls, variable, self_value, printed, choose, turns, loop, ev, ev_items, ev_arguments}
 use Rattle.hb_eval.specs.Fuel.{LeavesBelow, KeepsFuel}
 

@@ -1,4 +1,5 @@
 pub mod PrintLemmas
 pub mod Examples
 pub mod FuelLemmas
+pub mod BlockLemmas
 pub mod VariableLemmas

@@ -1,11 +1,10 @@
 -- What a step of the machine comes to.
-use Rattle.std.specs.Prelude.{◌≡◌, ℕ, suc, ◌+◌, ◌-◌, ◌<◌, ◌≤◌, List, [], ◌∷◌, length, take, reverse, Bool, true, false, Option, Some, None}
+use Rattle.std.specs.Prelude.{◌≡◌, ℕ, suc, ◌+◌, ◌<◌, ◌≤◌, List, ◌∷◌, length, take, reverse, Bool, false, Option, Some, None}
 use Rattle.hb_tree.specs.Table.{Table}
 use Rattle.hb_tree.specs.TreeAt.{tree_at, IsExprAt, IsBlockAt}
 use Rattle.hb_tree.specs.Tree.{Tree, TCall, TDefComputed, TDeclareComputed, Forest, NoTree, Trees}
 use Rattle.hb_names.specs.Names.{Name}
 use Rattle.hb_tables.specs.declared.entry.Entry.{Entry}
-use Rattle.hb_eval.specs.declared.value.Value.{Value}
 use Rattle.hb_eval.specs.declared.cont.Cont.{Cont}
 use Rattle.hb_eval.specs.declared.cont.Cont.TheVariants as cont
 use Rattle.hb_eval.specs.declared.state.State.{State}
@@ -13,9 +12,7 @@ use Rattle.hb_eval.specs.declared.state.Move.{Move}
 use Rattle.hb_eval.specs.State.{St, Answer}
 use Rattle.hb_eval.specs.Meaning.{Calls}
 use Rattle.hb_eval.specs.Fuel.{KeepsFuel}
-use Rattle.hb_eval.specs.Values.{IsKnown}
-use Rattle.hb_eval.specs.Machine.{World, Frames, need, frames_in, room, resume, stands, st_of}
-use Rattle.std.specs.List.{AllByRecursion}
+use Rattle.hb_eval.specs.Machine.{World, Frames, need, room, resume, stands, st_of}
 
 -- this holds for each list of names, and for calls that give no fuel back
 abbrev pub InEach : Table → (World → Type 0) → Type 0

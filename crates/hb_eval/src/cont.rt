@@ -22,7 +22,7 @@ pub enum Cont {
     /// It is that of a loop's block.
     Turn(NodeId, NodeId),
     /// Go on with the items of a block from a place on.
-    Items(NodeId, u16),
+    Items(NodeId, u32),
     /// It is the receiver of a call.
     Receiver(NodeId),
     /// It is the argument of a call behind so many others.

@@ -1,4 +1,4 @@
-use Rattle.std.proofs.Common.{◌<◌, length, ◌∙◌, ap, arith, vec_len, ℕ, Vec, Global, drop}
+use Rattle.std.proofs.Common.{◌<◌, length, ◌∙◌, ap, arith, vec_len, Vec, Global, drop}
 use Rattle.hb_types.specs.declared.ids.NameId.{NameId}
 use Rattle.hb_eval.specs.declared.value.Value.{Value}
 use Rattle.hb_eval.specs.State.{bind}
