@@ -2,4 +2,5 @@ pub mod PrintLemmas
 pub mod Examples
 pub mod FuelLemmas
 pub mod BlockLemmas
+pub mod BeginLemmas
 pub mod VariableLemmas

@@ -2,7 +2,7 @@
 use Rattle.std.specs.Prelude.{◌≡◌, ℕ, suc, ◌+◌, ◌<◌, ◌≤◌, List, ◌∷◌, length, take, reverse, Bool, false, Option, Some, None}
 use Rattle.hb_tree.specs.Table.{Table}
 use Rattle.hb_tree.specs.TreeAt.{tree_at, IsExprAt, IsBlockAt}
-use Rattle.hb_tree.specs.Tree.{Tree, TCall, TDefComputed, TDeclareComputed, Forest, NoTree, Trees}
+use Rattle.hb_tree.specs.Tree.{Tree, TCall, TDef, TDefComputed, TDeclare, TDeclareComputed, Forest, NoTree, Trees}
 use Rattle.hb_names.specs.Names.{Name}
 use Rattle.hb_tables.specs.declared.entry.Entry.{Entry}
 use Rattle.hb_eval.specs.declared.cont.Cont.{Cont}
@@ -34,6 +34,12 @@ abbrev pub IsComputed : Tree → Type 0
 IsComputed (TDefComputed id c e site b) = Unit {0}
 IsComputed (TDeclareComputed id c e site asks) = Unit {0}
 IsComputed _ = ⊥
+
+-- it is no `def` or `type` with a plain name, which asks a table as it begins
+abbrev pub AsksNoTable : Tree → Type 0
+AsksNoTable (TDef id c m site b) = ⊥
+AsksNoTable (TDeclare id c m site asks) = ⊥
+AsksNoTable _ = Unit {0}
 
 abbrev pub forest_size : Forest → ℕ
 forest_size NoTree = 0

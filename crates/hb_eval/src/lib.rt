@@ -2,6 +2,7 @@
 #![tactic(auto)]
 
 pub mod arguments;
+mod begin;
 mod blocks;
 pub mod cont;
 mod moves;
