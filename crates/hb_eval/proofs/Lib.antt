@@ -3,4 +3,5 @@ pub mod Examples
 pub mod FuelLemmas
 pub mod BlockLemmas
 pub mod BeginLemmas
+pub mod KnownLemmas
 pub mod VariableLemmas

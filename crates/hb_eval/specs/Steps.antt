@@ -1,5 +1,6 @@
 -- What a step of the machine comes to.
-use Rattle.std.specs.Prelude.{◌≡◌, ℕ, suc, ◌+◌, ◌<◌, ◌≤◌, List, ◌∷◌, length, take, reverse, Bool, false, Option, Some, None}
+use Rattle.std.specs.Prelude.{◌≡◌, ℕ, suc, ◌+◌, ◌<◌, ◌≤◌, List, ◌∷◌, length, take, reverse, Bool, false, Option, Some, None, IfSome}
+use Rattle.std.specs.List.{AllByRecursion}
 use Rattle.hb_tree.specs.Table.{Table}
 use Rattle.hb_tree.specs.TreeAt.{tree_at, IsExprAt, IsBlockAt}
 use Rattle.hb_tree.specs.Tree.{Tree, TCall, TDef, TDefComputed, TDeclare, TDeclareComputed, Forest, NoTree, Trees}
@@ -9,6 +10,7 @@ use Rattle.hb_eval.specs.declared.cont.Cont.{Cont}
 use Rattle.hb_eval.specs.declared.cont.Cont.TheVariants as cont
 use Rattle.hb_eval.specs.declared.state.State.{State}
 use Rattle.hb_eval.specs.declared.state.Move.{Move}
+use Rattle.hb_eval.specs.Values.{IsKnown}
 use Rattle.hb_eval.specs.State.{St, Answer}
 use Rattle.hb_eval.specs.Meaning.{Calls}
 use Rattle.hb_eval.specs.Fuel.{KeepsFuel}
@@ -85,6 +87,13 @@ weigh_one _ = 1
 abbrev pub weigh_push : Option Cont → ℕ
 weigh_push None = 0
 weigh_push (Some k) = weigh_one k
+
+-- the classes of all objects in hand are classes of the program
+pub record AreKnown (t : Table) (x : State) : Type 0 where
+  pub acc : IsKnown t x.acc
+  pub operands : AllByRecursion (IsKnown t) x.operands.items
+  pub vars : AllByRecursion (λ b. IsKnown t b.1) x.vars.items
+  pub class : IfSome x.class (λ c. c.0 < length t.classes)
 
 -- The move is fine, the operands have what it needs where they had what was to be done, and the variables below the frame's stay.
 pub record Keeps (t : Table) (front : Option Cont) (old new : State) (move : Move) : Type 0 where

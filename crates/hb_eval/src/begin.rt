@@ -1,10 +1,10 @@
 //! How an expression begins that asks no table.
 
-ghost use Rattle.std.specs.Prelude.{◌≡◌, ◌+◌, ◌-◌, ◌<◌, ◌≤◌, ◌^◌, length, IfOk, Some, None, true, false};
+ghost use Rattle.std.specs.Prelude.{◌≡◌, ◌+◌, ◌-◌, ◌<◌, ◌≤◌, ◌^◌, length, IfOk, OnOk, Some, None, true, false};
 ghost use Rattle.hb_tree.specs.TreeAt.{IsExprAt, tree_at};
 ghost use Rattle.hb_tree.specs.Canon.{bytes_at};
 ghost use Rattle.hb_eval.specs.declared.value.Value.TheVariants.{Str};
-ghost use Rattle.hb_eval.specs.Steps.{InEach, Moves, AsksNoTable};
+ghost use Rattle.hb_eval.specs.Steps.{AreKnown, InEach, Moves, AsksNoTable};
 
 use crate::cont::Cont;
 use crate::moves::{first, give, halt};
@@ -38,6 +38,7 @@ pub(crate) fn begin(alloc: Global, prog: &Program, state: &mut State) -> Result<
     requires base { state.old.base ≤ length state.old.vars.items }
     ensures moves { IfOk result (λ m. InEach prog.now (Moves None false state.old state.new m)) }
     ensures begun { state.new.begun ≡ state.old.begun + 1 }
+    ensures known { AreKnown prog.now state.old → OnOk result (AreKnown prog.now state.new) }
 {
     let id = state.at;
     state.begun += 1;

@@ -5,7 +5,7 @@ ghost use Rattle.hb_tree.specs.TreeAt.{IsExprAt, IsBlockAt, tree_at, forest_at};
 ghost use Rattle.hb_tree.specs.Tree.{TBlock};
 ghost use Rattle.hb_eval.specs.declared.cont.Cont.TheVariants as cont;
 ghost use Rattle.hb_eval.specs.Machine.{meaning, items_from};
-ghost use Rattle.hb_eval.specs.Steps.{InEach, Moves, Starts, IsFine, weigh_push};
+ghost use Rattle.hb_eval.specs.Steps.{AreKnown, InEach, Moves, Starts, IsFine, weigh_push};
 
 use crate::cont::Cont;
 use crate::moves::{first, give, in_hand, next, under};
@@ -46,6 +46,7 @@ fn next_item(prog: &Program, block: NodeId, at: usize, state: &mut State) -> Mov
     requires block { IsBlockAt prog.now block.0 }
     ensures starts { InEach prog.now (Starts (λ w room s. items_from w room (tree_at w.program block.0) at state.old.acc s) state.old state.new result) }
     ensures begun { state.new.begun ≡ state.old.begun }
+    ensures known { AreKnown prog.now state.old → AreKnown prog.now state.new }
     ensures under { result.under ≡ None }
 {
     let items = items_of(prog, block);
@@ -66,6 +67,7 @@ pub(crate) fn start_block(prog: &Program, block: NodeId, state: &mut State) -> M
     requires { IsBlockAt prog.now block.0 }
     ensures starts { InEach prog.now (Starts (λ w room. meaning w room block.0) state.old state.new result) }
     ensures begun { state.new.begun ≡ state.old.begun }
+    ensures known { AreKnown prog.now state.old → AreKnown prog.now state.new }
     ensures under { result.under ≡ None }
 {
     state.acc = Value::Nil;
@@ -78,6 +80,7 @@ pub(crate) fn choose(prog: &Program, a: NodeId, b: NodeId, state: &mut State) ->
     requires fine { IsFine prog.now (cont.Choose a b) }
     ensures moves { InEach prog.now (Moves (Some (cont.Choose a b)) true state.old state.new result) }
     ensures begun { state.new.begun ≡ state.old.begun }
+    ensures known { AreKnown prog.now state.old → AreKnown prog.now state.new }
     ensures light { weigh_push result.under < 1 }
 {
     if state.acc.is_false() {
@@ -93,6 +96,7 @@ pub(crate) fn test(prog: &Program, condition: NodeId, block: NodeId, state: &mut
     requires fine { IsFine prog.now (cont.Test condition block) }
     ensures moves { InEach prog.now (Moves (Some (cont.Test condition block)) true state.old state.new result) }
     ensures begun { state.new.begun ≡ state.old.begun }
+    ensures known { AreKnown prog.now state.old → AreKnown prog.now state.new }
     ensures light { weigh_push result.under < 2 }
 {
     if state.acc.is_false() {
@@ -109,6 +113,7 @@ pub(crate) fn turn(prog: &Program, condition: NodeId, block: NodeId, state: &mut
     requires fine { IsFine prog.now (cont.Turn condition block) }
     ensures moves { InEach prog.now (Moves (Some (cont.Turn condition block)) true state.old state.new result) }
     ensures begun { state.new.begun ≡ state.old.begun }
+    ensures known { AreKnown prog.now state.old → AreKnown prog.now state.new }
     ensures light { weigh_push result.under < 1 }
 {
     first(state, Cont::Test(condition, block), condition)
@@ -120,6 +125,7 @@ pub(crate) fn items(prog: &Program, block: NodeId, at: u32, state: &mut State) -
     requires fine { IsFine prog.now (cont.Items block at) }
     ensures moves { InEach prog.now (Moves (Some (cont.Items block at)) true state.old state.new result) }
     ensures begun { state.new.begun ≡ state.old.begun }
+    ensures known { AreKnown prog.now state.old → AreKnown prog.now state.new }
     ensures light { weigh_push result.under < 1 }
 {
     next_item(prog, block, at as usize, state)

@@ -5,7 +5,7 @@ ghost use Rattle.hb_tree.specs.TreeAt.{IsExprAt, IsBlockAt, tree_at};
 ghost use Rattle.hb_eval.specs.declared.cont.Cont.TheVariants as cont;
 ghost use Rattle.hb_eval.specs.Values.{IsKnown};
 ghost use Rattle.hb_eval.specs.Machine.{meaning, items_from};
-ghost use Rattle.hb_eval.specs.Steps.{InEach, Moves, Starts, IsFine, weigh_push};
+ghost use Rattle.hb_eval.specs.Steps.{AreKnown, InEach, Moves, Starts, IsFine, weigh_push};
 
 use crate::cont::Cont;
 use crate::moves::{first, give, halt, in_hand, next, under};
@@ -22,7 +22,7 @@ use std::alloc::{AllocError, Global};
 use std::mem;
 
 /// The left operand waits while the right one begins.
-#[tactic(auto, unfolding(crate::specs::State::then_do))]
+#[tactic(auto, using(crate::proofs::KnownLemmas::pushed_known), unfolding(crate::specs::State::then_do))]
 pub(crate) fn left(
     prog: &Program,
     id: NodeId,
@@ -33,6 +33,7 @@ pub(crate) fn left(
     requires fine { IsExprAt prog.now right.0 }
     ensures moves { IfOk result (λ m. InEach prog.now (Moves (Some (cont.Left id op right)) true state.old state.new m)) }
     ensures begun { state.new.begun ≡ state.old.begun }
+    ensures known { AreKnown prog.now state.old → OnOk result (AreKnown prog.now state.new) }
     ensures light { IfOk result (λ m. weigh_push m.under < 1) }
 {
     let value = mem::replace(&mut state.acc, Value::Nil);
@@ -52,6 +53,7 @@ pub(crate) fn right(
     requires operand { 1 ≤ length state.old.operands.items }
     ensures moves { IfOk result (λ m. InEach prog.now (Moves (Some (cont.Right id op)) true state.old state.new m)) }
     ensures begun { state.new.begun ≡ state.old.begun }
+    ensures known { AreKnown prog.now state.old → OnOk result (AreKnown prog.now state.new) }
     ensures light { IfOk result (λ m. weigh_push m.under < 1) }
 {
     match state.operands.pop() {
@@ -65,11 +67,12 @@ pub(crate) fn right(
 }
 
 /// A variable gets the value in hand, which stays there.
-#[tactic(auto, unfolding(crate::specs::State::then_do))]
+#[tactic(auto, using(crate::proofs::KnownLemmas::bound_known), unfolding(crate::specs::State::then_do))]
 pub(crate) fn assign(prog: &Program, name: NameId, state: &mut State) -> Result<Move, AllocError>
     requires base { state.old.base ≤ length state.old.vars.items }
     ensures moves { IfOk result (λ m. InEach prog.now (Moves (Some (cont.Assign name)) true state.old state.new m)) }
     ensures begun { state.new.begun ≡ state.old.begun }
+    ensures known { AreKnown prog.now state.old → OnOk result (AreKnown prog.now state.new) }
     ensures light { IfOk result (λ m. weigh_push m.under < 1) }
 {
     let value = state.acc.copied()?;
@@ -82,6 +85,7 @@ pub(crate) fn assign(prog: &Program, name: NameId, state: &mut State) -> Result<
 pub(crate) fn not(prog: &Program, state: &mut State) -> Move
     ensures moves { InEach prog.now (Moves (Some cont.Not) true state.old state.new result) }
     ensures begun { state.new.begun ≡ state.old.begun }
+    ensures known { AreKnown prog.now state.old → AreKnown prog.now state.new }
     ensures light { weigh_push result.under < 1 }
 {
     let truth = state.acc.is_false();
@@ -94,6 +98,7 @@ pub(crate) fn to_text(alloc: Global, prog: &Program, state: &mut State) -> Resul
     requires known { IsKnown prog.now state.old.acc }
     ensures moves { IfOk result (λ m. InEach prog.now (Moves (Some cont.ToStr) true state.old state.new m)) }
     ensures begun { state.new.begun ≡ state.old.begun }
+    ensures known { AreKnown prog.now state.old → OnOk result (AreKnown prog.now state.new) }
     ensures light { IfOk result (λ m. weigh_push m.under < 1) }
 {
     let text = shown(alloc, prog, &state.acc)?;
@@ -111,6 +116,7 @@ pub(crate) fn print_value(
     requires known { IsKnown prog.now state.old.acc }
     ensures moves { IfOk result (λ m. InEach prog.now (Moves (Some (cont.Print id)) true state.old state.new m)) }
     ensures begun { state.new.begun ≡ state.old.begun }
+    ensures known { AreKnown prog.now state.old → OnOk result (AreKnown prog.now state.new) }
     ensures light { IfOk result (λ m. weigh_push m.under < 1) }
 {
     let text = shown(alloc, prog, &state.acc)?;

@@ -2,6 +2,10 @@ use Rattle.std.proofs.Common.{arith, refl, ap, sym, subst}
 use Rattle.std.specs.Prelude.{reverse}
 use Rattle.hb_eval.specs.Machine.{World, room, resume, st_of}
 use Rattle.hb_eval.specs.Steps.{IsCall}
+use Rattle.std.proofs.Common.{◌∙◌, ◌-◌, length, take, drop}
+use Rattle.std.specs.List.{AllByRecursion}
+use Rattle.hb_eval.specs.Values.{IsKnown}
+use Rattle.hb_eval.proofs.KnownLemmas.{found_known, dropped_known, taken_known}
 use Rattle.hb_eval.proofs.BeginLemmas.{starved_at, while_begins, call_begins}
 use Rattle.hb_eval.proofs.begin.begin.Goals as goal
 
@@ -32,4 +36,18 @@ returns-in-Call-clause-moves c names calls keeps =
     rw (c.first-in-Call.ensures.state, c.first-in-Call.ensures.value) (record {
       same = λ ks fs read journal. ap (resume w ks (reverse old.operands.items) fs) (call_begins w (room fs) old.at.0 c.in-Call.receiver.0 _ _ (st_of old read journal) c.if-state-eq0.false e);
       keeps = record { under = tt; push = (c.requires.expr, subst IsCall (sym e) tt); step = c.in-Call.ensures.kinds.0.0; light = tt; operands = omega arith; base = refl; below = refl; size = omega arith };
+    })
+
+pub returns-in-Some-2-clause-known : goal.returns-in-Some-2-clause-known
+returns-in-Some-2-clause-known c known =
+    let t = c.args.prog.now in
+    let base = c.args.state.now.base in
+    let all = c.deref.result.now in
+    let each = subst (AllByRecursion (λ b. IsKnown t b.1)) (sym c.deref.ensures.value) known.vars in
+    let frame = taken_known t (length all - base) (drop base all) (dropped_known t base all each) in
+    rw c.give-in-Some-2.ensures.state (record {
+      acc = found_known t (take (length all - base) (drop base all)) c.in-Var.name.0 c.in-Some-2.value frame (sym c.in-Some-2.is ∙ c.in_ok-value-in-Var.ensures);
+      operands = known.operands;
+      vars = known.vars;
+      class = known.class;
     })
