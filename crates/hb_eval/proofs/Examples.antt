@@ -6,9 +6,8 @@ use Rattle.hb_tree.specs.declared.node.Op.TheVariants as op
 use Rattle.hb_tree.specs.Spelling.{keywords}
 use Rattle.hb_tree.specs.Tree.{Tree, TNil, TTrue, TSelf, TInt, TText, TVar, TNew, TAssign, TPrint, TToStr, TBinary, TWhile, TDef, TDefComputed, TDeclare, TDeclareComputed, TBlock, Forest, NoTree, Trees}
 use Rattle.hb_names.specs.Names.{Name}
-use Rattle.hb_tables.specs.declared.entry.Entry.{Entry}
+use Rattle.hb_tables.specs.declared.entry.Act.{Act}
 use Rattle.hb_tables.specs.declared.entry.Act.TheVariants as act
-use Rattle.hb_tables.specs.History.{entry}
 use Rattle.hb_eval.specs.declared.value.Value.TheVariants as value
 use Rattle.hb_eval.specs.declared.stop.Stop.{Stop}
 use Rattle.hb_eval.specs.declared.stop.Stop.TheVariants as stop
@@ -36,11 +35,11 @@ no_calls : Calls
 no_calls id r m args s = Lost
 
 -- the items of a script, run with so many steps against this journal
-run : List Name → (steps : ℕ) → List Entry → Forest → Option Run
+run : List Name → (steps : ℕ) → List Act → Forest → Option Run
 run names steps journal items = run_of (ev program names no_calls (TBlock 99 items) (start steps journal))
 
-stopped : Stop → ℕ → List (ℕ × Entry) → Option Run
-stopped e id entries = Some (record { outcome = outcome.Stopped e (record { 0 = id }); output = []; entries = entries })
+stopped : Stop → ℕ → List (ℕ × Act) → Option Run
+stopped e id acts = Some (record { outcome = outcome.Stopped e (record { 0 = id }); output = []; acts = acts })
 
 one : Tree → Forest
 one e = Trees e NoTree
@@ -48,8 +47,8 @@ one e = Trees e NoTree
 two : Tree → Tree → Forest
 two a b = Trees a (one b)
 
-printed : List ℕ → List (ℕ × Entry) → Option Run
-printed output entries = Some (record { outcome = outcome.Done value.Nil; output = output; entries = entries })
+printed : List ℕ → List (ℕ × Act) → Option Run
+printed output acts = Some (record { outcome = outcome.Done value.Nil; output = output; acts = acts })
 
 -- a script without an item
 nothing : run [] 100 [] NoTree ≡ printed [] []
@@ -78,11 +77,11 @@ number_for_a_name : run [] 100 [] (one (TDefComputed 1 0 (TInt 0 (pos 1)) 0 (TBl
 unfolding run stopped one then_do begin
 number_for_a_name = refl
 
-retype : ℕ → ℕ → Entry
-retype key site = entry 0 (act.Retype (record { 0 = key }) (record { 0 = site }))
+retype : ℕ → ℕ → Act
+retype key site = act.Retype (record { 0 = key }) (record { 0 = site })
 
-define : ℕ → ℕ → Entry
-define key site = entry 0 (act.Define (record { 0 = key }) (record { 0 = site }))
+define : ℕ → ℕ → Act
+define key site = act.Define (record { 0 = key }) (record { 0 = site })
 
 -- `def A.("get_" ++ str(true))() 7 end`
 accessor : Tree
@@ -104,7 +103,7 @@ counting = Trees
     (TAssign 18 2 (TBinary 17 op.Add (TVar 15 2) (TInt 16 (pos 1)))))))
     (TVar 21 2))
 
-counted : run [] 30 [] counting ≡ Some (record { outcome = outcome.Done (value.Int (pos 3)); output = []; entries = [] })
+counted : run [] 30 [] counting ≡ Some (record { outcome = outcome.Done (value.Int (pos 3)); output = []; acts = [] })
 unfolding run one two counting then_do begin turns loop
 counted = refl
 
@@ -122,11 +121,11 @@ full : run (replicate 1024 (0, codes "m0")) 100 [] (one (TDef 1 0 0 0 (TBlock 0 
 unfolding run stopped one program then_do begin reads
 full = refl
 
-worn : Entry
-worn = entry 0 (act.WornType (record { 0 = 0 }))
+worn : Act
+worn = act.WornType (record { 0 = 0 })
 
-busy : Entry
-busy = entry 0 (act.Busy (record { 0 = 0 }) 1)
+busy : Act
+busy = act.Busy (record { 0 = 0 }) 1
 
 -- a second `type` where a type may change once
 worn_type : run ((0, codes "g") ∷ []) 100 (retype 0 0 ∷ worn ∷ []) (two (TDeclare 1 0 0 0 false) (TDeclare 2 0 0 1 false))
@@ -157,7 +156,7 @@ unfolding run stopped one then_do begin
 no_step_left = refl
 
 steps_enough : run [] 3 [] (one (TBinary 3 op.Add (TInt 1 (pos 1)) (TInt 2 (pos 2))))
-    ≡ Some (record { outcome = outcome.Done (value.Int (pos 3)); output = []; entries = [] })
+    ≡ Some (record { outcome = outcome.Done (value.Int (pos 3)); output = []; acts = [] })
 unfolding run one then_do begin
 steps_enough = refl
 

@@ -9,7 +9,6 @@ use Rattle.hb_tree.specs.Canon.{bytes_at}
 use Rattle.hb_tree.specs.Tree.{Tree, TNil, TTrue, TFalse, TSelf, TInt, TText, TVar, TNew, TAssign, TPrint, TToStr, TNot, TBinary, TIf, TWhile, TCall, TDef, TDefComputed, TDeclare, TDeclareComputed, TBlock, Forest, NoTree, Trees, IsExpr, id_of}
 use Rattle.hb_names.specs.declared.names.TheConstants.{NAMES_MAX}
 use Rattle.hb_names.specs.Names.{Name, place}
-use Rattle.hb_tables.specs.declared.entry.Entry.{Entry}
 use Rattle.hb_tables.specs.declared.entry.Act.{Act}
 use Rattle.hb_eval.specs.declared.printed.TheConstants.{OUTPUT_MAX}
 use Rattle.hb_eval.specs.declared.value.Value.{Value}
@@ -19,7 +18,7 @@ use Rattle.hb_eval.specs.declared.stop.Stop.TheVariants as stop
 use Rattle.hb_eval.specs.Values.{is_false}
 use Rattle.hb_eval.specs.Printing.{print_line, shown}
 use Rattle.hb_eval.specs.Operators.{operate}
-use Rattle.hb_eval.specs.State.{St, Answer, Lost, Done, Halt, then_do, gives, begin, value_at, meant, next_entry, read_entry, reads}
+use Rattle.hb_eval.specs.State.{St, Answer, Lost, Done, Halt, then_do, gives, begin, value_at, meant, next_act, read_act, reads}
 use Rattle.hb_eval.specs.Methods.{named, is_name, with_key, define_meaning, declare_meaning, define, declare}
 use Rattle.hb_eval.specs.Meaning.{Calls, variable, self_value, printed, choose, turns, loop, ev, ev_items, ev_arguments}
 use Rattle.hb_eval.specs.Fuel.{LeavesBelow, KeepsFuel}
@@ -100,10 +99,10 @@ leaves_meant : (n id : ℕ) (o : Option (Result Value Stop)) (s : St) → s.fuel
 leaves_meant n id None s h = tt
 leaves_meant n id (Some r) s h = leaves_gives n id r s h
 
--- reading an entry takes nothing
-leaves_next : (n id : ℕ) (m : Act → Option (Result Value Stop)) (s : St) (es : List Entry) → s.fuel < n → LeavesBelow n (next_entry m id s es)
+-- reading an act takes nothing
+leaves_next : (n id : ℕ) (m : Act → Option (Result Value Stop)) (s : St) (es : List Act) → s.fuel < n → LeavesBelow n (next_act m id s es)
 leaves_next n id m s [] h = tt
-leaves_next n id m s (e ∷ es) h = leaves_meant n id (m e.act) (read_entry e es s) h
+leaves_next n id m s (e ∷ es) h = leaves_meant n id (m e) (read_act e es s) h
 
 leaves_reads : (n id : ℕ) (m : Act → Option (Result Value Stop)) (s : St) → s.fuel < n → LeavesBelow n (reads m id s)
 unfolding reads

@@ -7,7 +7,7 @@ use Rattle.hb_tree.specs.Table.{Table}
 use Rattle.hb_tree.specs.TreeAt.{tree_at}
 use Rattle.hb_tree.specs.Tree.{Tree, TCall, TDefComputed, TDeclareComputed, TBlock, Forest, NoTree, Trees}
 use Rattle.hb_names.specs.Names.{Name}
-use Rattle.hb_tables.specs.declared.entry.Entry.{Entry}
+use Rattle.hb_tables.specs.declared.entry.Act.{Act}
 use Rattle.hb_eval.specs.declared.value.Value.{Value}
 use Rattle.hb_eval.specs.declared.value.Value.TheVariants as value
 use Rattle.hb_eval.specs.declared.cont.Cont.{Cont}
@@ -108,8 +108,8 @@ abbrev pub resume : World → List Cont → List Value → Frames → Answer →
 resume w [] vs fs a = a
 resume w (k ∷ ks) vs fs a = resume w ks (drop (need k) vs) (drop (frames_in k) fs) (plug w (room fs) k (take (need k) vs) fs a)
 
--- what a machine has in hand, with the entries read and those left
-abbrev pub st_of : State → List (ℕ × Entry) → List Entry → St
+-- what a machine has in hand, with the acts read and those left
+abbrev pub st_of : State → List (ℕ × Act) → List Act → St
 st_of x read journal = record {
   vars = drop x.base x.vars.items;
   self = x.class;
@@ -128,6 +128,6 @@ answer_of w room true false x s = Done x.acc s
 answer_of w room false false x s = meaning w room x.at.0 s
 
 -- the answer of the whole run, where these are left to do
-abbrev pub stands : World → List Cont → Frames → (gives stops : Bool) → State → List (ℕ × Entry) → List Entry → Answer
+abbrev pub stands : World → List Cont → Frames → (gives stops : Bool) → State → List (ℕ × Act) → List Act → Answer
 stands w ks fs gives stops x read journal =
     resume w ks (reverse x.operands.items) fs (answer_of w (room fs) gives stops x (st_of x read journal))

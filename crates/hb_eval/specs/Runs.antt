@@ -3,7 +3,6 @@ use Rattle.std.specs.Prelude.{ℕ, List, [], ◌∷◌, Option, Some, None, Bool
 use Rattle.hb_tree.specs.Table.{Table}
 use Rattle.hb_tree.specs.TreeAt.{tree_at}
 use Rattle.hb_names.specs.Names.{Name}
-use Rattle.hb_tables.specs.declared.entry.Entry.{Entry}
 use Rattle.hb_tables.specs.declared.entry.Act.{Act}
 use Rattle.hb_tables.specs.declared.entry.Act.TheVariants.{Call}
 use Rattle.hb_tables.specs.declared.entry.Verdict.{Verdict}
@@ -16,7 +15,7 @@ use Rattle.hb_eval.specs.State.{St, Answer, Lost, Done, Halt}
 use Rattle.hb_eval.specs.Meaning.{Calls, ev}
 
 -- a script begins at script level, with no variable
-abbrev pub start : ℕ → List Entry → St
+abbrev pub start : ℕ → List Act → St
 start steps journal = record {
   vars = [];
   self = None;
@@ -28,14 +27,14 @@ start steps journal = record {
   journal = journal;
 }
 
--- how it ended, what it printed, and its entries, each with the number of beginnings
+-- how it ended, what it printed, and its acts, each with the number of beginnings
 pub record Run : Type 0 where
   pub outcome : Outcome
   pub output : List ℕ
-  pub entries : List (ℕ × Entry)
+  pub acts : List (ℕ × Act)
 
-abbrev pub ended : Outcome → St → List Entry → Option Run
-ended o s [] = Some (record { outcome = o; output = s.output; entries = s.read })
+abbrev pub ended : Outcome → St → List Act → Option Run
+ended o s [] = Some (record { outcome = o; output = s.output; acts = s.read })
 ended o s (e ∷ rest) = None
 
 -- there is a run where the journal is read to its end
@@ -45,7 +44,7 @@ run_of (Done v s) = ended (outcome.Done v) s s.journal
 run_of (Halt e id s) = ended (outcome.Stopped e (record { 0 = id })) s s.journal
 
 -- the run of a block, with so many steps
-abbrev pub script_run : Table → List Name → Calls → (block steps : ℕ) → List Entry → Option Run
+abbrev pub script_run : Table → List Name → Calls → (block steps : ℕ) → List Act → Option Run
 script_run t names call block steps journal = run_of (ev t names call (tree_at t block) (start steps journal))
 
 abbrev pub is_call : Act → Bool
@@ -68,7 +67,7 @@ is_entered way _ = false
 
 -- how many calls were decided, and how many of them entered by each way
 abbrev pub calls_in : Run → ℕ
-calls_in run = count_by (λ e. is_call e.1.act) run.entries
+calls_in run = count_by (λ e. is_call e.1) run.acts
 
 abbrev pub entered_in : By → Run → ℕ
-entered_in way run = count_by (λ e. is_entered way e.1.act) run.entries
+entered_in way run = count_by (λ e. is_entered way e.1) run.acts

@@ -2,7 +2,6 @@
 use Rattle.std.specs.Prelude.{ℕ, ◌+◌, ◌-◌, List, [], ◌∷◌, ◌++◌, Option, Some, None, Result, Ok, Err, nat_eq, if◌then◌else◌}
 use Rattle.hb_types.specs.declared.ids.NameId.{NameId}
 use Rattle.hb_types.specs.declared.ids.ClassId.{ClassId}
-use Rattle.hb_tables.specs.declared.entry.Entry.{Entry}
 use Rattle.hb_tables.specs.declared.entry.Act.{Act}
 use Rattle.hb_eval.specs.declared.value.Value.{Value}
 use Rattle.hb_eval.specs.declared.stop.Stop.{Stop}
@@ -12,7 +11,7 @@ abbrev pub Bindings : Type 0
 Bindings = List (NameId × Value)
 
 -- The variables, self's class where a method runs, the fuel, how many expressions have begun, the number of the next
--- call, the bytes that were printed, the entries that were read, each with the number of beginnings, and those that are left.
+-- call, the bytes that were printed, the acts that were read, each with the number of beginnings, and those that are left.
 pub record St : Type 0 where
   pub vars : Bindings
   pub self : Option ClassId
@@ -20,10 +19,10 @@ pub record St : Type 0 where
   pub begun : ℕ
   pub next : ℕ
   pub output : List ℕ
-  pub read : List (ℕ × Entry)
-  pub journal : List Entry
+  pub read : List (ℕ × Act)
+  pub journal : List Act
 
--- a value, or a stop at a node; or no answer, where the journal has another entry than is asked for
+-- a value, or a stop at a node; or no answer, where the journal has another act than is asked for
 pub data Answer : Type 0 where
   Lost : Answer
   Done : (v : Value) (s : St) → Answer
@@ -57,19 +56,19 @@ abbrev pub bind : Bindings → ℕ → Value → Bindings
 bind [] x v = (record { 0 = x }, v) ∷ []
 bind (b ∷ bs) x v = if nat_eq b.0.0 x then (record { 0 = x }, v) ∷ bs else b ∷ bind bs x v
 
--- an entry is read
-abbrev pub read_entry : Entry → List Entry → St → St
-read_entry e rest s = record s { read = s.read ++ (s.begun, e) ∷ []; journal = rest }
+-- an act is read
+abbrev pub read_act : Act → List Act → St → St
+read_act e rest s = record s { read = s.read ++ (s.begun, e) ∷ []; journal = rest }
 
--- what the entry means at a node, where it is one that is asked for
+-- what the act means at a node, where it is one that is asked for
 abbrev pub meant : ℕ → Option (Result Value Stop) → St → Answer
 meant id None s = Lost
 meant id (Some r) s = gives id r s
 
-abbrev pub next_entry : (Act → Option (Result Value Stop)) → ℕ → St → List Entry → Answer
-next_entry meaning id s [] = Lost
-next_entry meaning id s (e ∷ rest) = meant id (meaning e.act) (read_entry e rest s)
+abbrev pub next_act : (Act → Option (Result Value Stop)) → ℕ → St → List Act → Answer
+next_act meaning id s [] = Lost
+next_act meaning id s (e ∷ rest) = meant id (meaning e) (read_act e rest s)
 
--- reads the next entry, by what the acts mean that are asked for
+-- reads the next act, by what the acts mean that are asked for
 unfoldable pub reads : (Act → Option (Result Value Stop)) → ℕ → St → Answer
-reads meaning id s = next_entry meaning id s s.journal
+reads meaning id s = next_act meaning id s s.journal

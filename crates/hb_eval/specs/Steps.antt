@@ -5,7 +5,7 @@ use Rattle.hb_tree.specs.Table.{Table}
 use Rattle.hb_tree.specs.TreeAt.{tree_at, IsExprAt, IsBlockAt}
 use Rattle.hb_tree.specs.Tree.{Tree, TCall, TDef, TDefComputed, TDeclare, TDeclareComputed, Forest, NoTree, Trees}
 use Rattle.hb_names.specs.Names.{Name}
-use Rattle.hb_tables.specs.declared.entry.Entry.{Entry}
+use Rattle.hb_tables.specs.declared.entry.Act.{Act}
 use Rattle.hb_eval.specs.declared.cont.Cont.{Cont}
 use Rattle.hb_eval.specs.declared.cont.Cont.TheVariants as cont
 use Rattle.hb_eval.specs.declared.state.State.{State}
@@ -108,12 +108,12 @@ pub record Keeps (t : Table) (front : Option Cont) (old new : State) (move : Mov
 
 -- This state goes on to that move and that state, and reads nothing.
 pub record Moves (front : Option Cont) (gives : Bool) (old new : State) (move : Move) (w : World) : Type 0 where
-  pub same : (ks : List Cont) (fs : Frames) (read : List (ℕ × Entry)) (journal : List Entry)
+  pub same : (ks : List Cont) (fs : Frames) (read : List (ℕ × Act)) (journal : List Act)
       → stands w (onto front ks) fs gives false old read journal ≡ stands w (onto move.push (onto move.under ks)) fs move.gives move.stops new read journal
   pub keeps : Keeps w.program front old new move
 
 -- The same behind what has no value yet.
 pub record Starts (before : World → ℕ → St → Answer) (old new : State) (move : Move) (w : World) : Type 0 where
-  pub same : (ks : List Cont) (fs : Frames) (read : List (ℕ × Entry)) (journal : List Entry)
+  pub same : (ks : List Cont) (fs : Frames) (read : List (ℕ × Act)) (journal : List Act)
       → resume w ks (reverse old.operands.items) fs (before w (room fs) (st_of old read journal)) ≡ stands w (onto move.push (onto move.under ks)) fs move.gives move.stops new read journal
   pub keeps : Keeps w.program None old new move
