@@ -4,4 +4,5 @@ pub mod FuelLemmas
 pub mod BlockLemmas
 pub mod BeginLemmas
 pub mod KnownLemmas
+pub mod TableLemmas
 pub mod VariableLemmas

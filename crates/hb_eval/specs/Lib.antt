@@ -8,3 +8,4 @@ pub mod Runs
 pub mod Fuel
 pub mod Machine
 pub mod Steps
+pub mod Tables

@@ -12,6 +12,7 @@ pub mod spelling;
 pub mod state;
 mod steps;
 pub mod stop;
+mod tables;
 #[cfg(test)]
 mod tests;
 pub mod text;
