@@ -5,4 +5,5 @@ pub mod BlockLemmas
 pub mod BeginLemmas
 pub mod KnownLemmas
 pub mod TableLemmas
+pub mod MethodLemmas
 pub mod VariableLemmas
