@@ -5,6 +5,7 @@ pub mod arguments;
 mod begin;
 mod blocks;
 pub mod cont;
+mod methods;
 mod moves;
 pub mod operators;
 pub mod printed;
