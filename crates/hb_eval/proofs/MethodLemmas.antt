@@ -1,5 +1,5 @@
 -- What a `def` or a `type` comes to, by the answer of its table.
-use Rattle.std.proofs.Common.{◌≡◌, ◌≤◌, ◌+◌, ℕ, List, [], ◌∷◌, ◌++◌, length, length-append, append-nil, Option, Some, None, true, false, refl, sym, ap, ◌∙◌, subst, arith, nat_eq, eq-eqb}
+use Rattle.std.proofs.Common.{◌≡◌, ◌≤◌, ℕ, List, [], ◌∷◌, ◌++◌, length, length-append, append-nil, Option, Some, None, true, false, refl, sym, ap, ◌∙◌, subst, arith, eq-eqb}
 use Rattle.std.specs.Prelude.{Result, Ok, Err, reverse, if◌then◌else◌}
 use mathlib.Core.List.{IsPrefix}
 use Rattle.hb_types.specs.declared.ids.NodeId.{NodeId}
@@ -14,9 +14,9 @@ use Rattle.hb_eval.specs.declared.stop.Stop.{Stop}
 use Rattle.hb_eval.specs.declared.stop.Stop.TheVariants as stop
 use Rattle.hb_eval.specs.declared.state.State.{State}
 use Rattle.hb_eval.specs.declared.state.Move.{Move}
-use Rattle.hb_eval.specs.State.{St, Answer, Lost, Halt, reads}
+use Rattle.hb_eval.specs.State.{St, Lost, Halt, reads}
 use Rattle.hb_eval.specs.Methods.{with_key, keyed}
-use Rattle.hb_eval.specs.Machine.{World, resume, st_of}
+use Rattle.hb_eval.specs.Machine.{resume, st_of}
 use Rattle.hb_eval.specs.Tables.{Adds, ActsOn}
 use Rattle.hb_eval.proofs.TableLemmas.{reads_act}
 
@@ -33,8 +33,8 @@ given known c was now id name key asked v old new move found adds after mv =
       same = λ w prefix few ks fs read journal.
           let s : St = st_of old read (adds.act ∷ journal) in
           ap (resume w ks (reverse old.operands.items) fs)
-            (ap (λ o. with_key w.names id.0 o s (λ key. reads (asked key) id.0 s)) (stays known w.names name key prefix found)
-            ∙ reads_act (asked key) id.0 adds.act (Ok v) journal s adds.means refl);
+          (ap (λ o. with_key w.names id.0 o s (λ key. reads (asked key) id.0 s)) (stays known w.names name key prefix found)
+          ∙ reads_act (asked key) id.0 adds.act (Ok v) journal s adds.means refl);
     })
 
 pub stopped : (known : List Name) (c : ℕ) (was now : List Entry) (id : NodeId) (name : Name) (key : ℕ) (asked : ℕ → Act → Option (Result Value Stop)) (e : Stop) (old new : State) (move : Move)
@@ -47,8 +47,8 @@ stopped known c was now id name key asked e old new move found adds after mv =
       same = λ w prefix few ks fs read journal.
           let s : St = st_of old read (adds.act ∷ journal) in
           ap (resume w ks (reverse old.operands.items) fs)
-            (ap (λ o. with_key w.names id.0 o s (λ key. reads (asked key) id.0 s)) (stays known w.names name key prefix found)
-            ∙ reads_act (asked key) id.0 adds.act (Err e) journal s adds.means refl);
+          (ap (λ o. with_key w.names id.0 o s (λ key. reads (asked key) id.0 s)) (stays known w.names name key prefix found)
+          ∙ reads_act (asked key) id.0 adds.act (Err e) journal s adds.means refl);
     })
 
 no_more : (more : List Name) → length more ≤ 0 → more ≡ []
