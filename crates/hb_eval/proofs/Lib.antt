@@ -1,0 +1,9 @@
+pub mod PrintLemmas
+pub mod Examples
+pub mod FuelLemmas
+pub mod BlockLemmas
+pub mod BeginLemmas
+pub mod KnownLemmas
+pub mod TableLemmas
+pub mod MethodLemmas
+pub mod VariableLemmas

@@ -1,0 +1,7 @@
+use Rattle.std.proofs.Common.{◌≡◌, length, map, take}
+use Rattle.hb_types.specs.declared.types.TheConstants.{PARAMS_MAX}
+use Rattle.hb_eval.specs.Values.{kind_of}
+use Rattle.hb_eval.proofs.arguments.kinds.Given as goal
+
+abbrev pub invariant-loop-i : goal.invariant-loop-i
+invariant-loop-i l = (length l.kinds ≡ PARAMS_MAX) × (take l.i l.kinds ≡ map kind_of (take l.i l.values))

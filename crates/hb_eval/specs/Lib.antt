@@ -1,0 +1,11 @@
+pub mod Values
+pub mod Printing
+pub mod Operators
+pub mod Methods
+pub mod State
+pub mod Meaning
+pub mod Runs
+pub mod Fuel
+pub mod Machine
+pub mod Steps
+pub mod Tables

@@ -1,0 +1,39 @@
+//! What a machine has in hand.
+
+use crate::cont::Cont;
+use crate::stop::Stop;
+use crate::value::Value;
+use hb_types::ids::{CallNo, ClassId, NameId, NodeId};
+
+/// What a script has in hand beside its frames and what is left to do.
+#[derive(Drop)]
+pub struct State {
+    /// Values that wait for what is left to do, the last on top.
+    pub operands: Vec<Value>,
+    /// The variables of all live frames, those of the last on top.
+    pub vars: Vec<(NameId, Value)>,
+    /// The lines that were printed.
+    pub output: Vec<u8>,
+    /// The value in hand.
+    pub acc: Value,
+    /// What begins next; of a stop, its node.
+    pub at: NodeId,
+    pub stop: Stop,
+    /// The frame's variables are those from here on.
+    pub base: usize,
+    /// The class of self, where a method runs.
+    pub class: Option<ClassId>,
+    pub fuel: u32,
+    pub begun: u64,
+    /// The number of the next call.
+    pub next: CallNo,
+}
+
+/// What a step leaves to do: behind, and first once a value is there. Then whether a value is in hand, or a stop; else an expression begins.
+#[derive(Clone, Copy, Debug)]
+pub struct Move {
+    pub under: Option<Cont>,
+    pub push: Option<Cont>,
+    pub gives: bool,
+    pub stops: bool,
+}

@@ -1,0 +1,52 @@
+//! How a script changes the types and definitions of methods.
+
+ghost use Rattle.std.specs.Prelude.{◌≡◌, ◌<◌, ◌≤◌, ◌+◌};
+ghost use Rattle.hb_tables.specs.History.{IsLegal};
+ghost use Rattle.hb_eval.specs.Methods.{define_meaning, declare_meaning};
+ghost use Rattle.hb_eval.specs.Tables.{Adds};
+
+use crate::stop::Stop;
+use crate::value::Value;
+use hb_tables::desk::{DefAnswer, Desk, TypeAnswer};
+use hb_tables::entry::{BODIES_MAX, NAMES_MAX, TYPES_MAX};
+use hb_types::ids::{BodySite, KeyId, TypeSite};
+
+/// Gives a method the body of a site.
+pub(crate) fn define<D: Desk>(desk: &mut D, key: KeyId, site: BodySite) -> Result<Value, Stop>
+    requires key { key.0 < NAMES_MAX }
+    requires site { site.0 < BODIES_MAX }
+    requires spare { 1 ≤ D.spare desk.old }
+    ensures act { Adds (D.fixed desk.old).caller (D.front desk.old) (D.front desk.new) (define_meaning key.0 site.0) result }
+    ensures legal { IsLegal (D.fixed desk.old).limit (D.front desk.new) }
+    ensures fixed { D.fixed desk.new ≡ D.fixed desk.old }
+    ensures spare { D.spare desk.old ≤ D.spare desk.new + 1 }
+{
+    match desk.set_def(key, site) {
+        DefAnswer::Done => Ok(Value::Nil),
+        DefAnswer::Worn => Err(Stop::Worn),
+    }
+}
+
+/// Gives a method the type of a site. One that asks tells whether it did.
+pub(crate) fn declare<D: Desk>(
+    desk: &mut D,
+    key: KeyId,
+    site: TypeSite,
+    asks: bool,
+) -> Result<Value, Stop>
+    requires key { key.0 < NAMES_MAX }
+    requires site { site.0 < TYPES_MAX }
+    requires spare { 1 ≤ D.spare desk.old }
+    ensures act { Adds (D.fixed desk.old).caller (D.front desk.old) (D.front desk.new) (declare_meaning asks key.0 site.0) result }
+    ensures legal { IsLegal (D.fixed desk.old).limit (D.front desk.new) }
+    ensures fixed { D.fixed desk.new ≡ D.fixed desk.old }
+    ensures spare { D.spare desk.old ≤ D.spare desk.new + 1 }
+{
+    match desk.set_type(key, site) {
+        TypeAnswer::Done if asks => Ok(Value::Bool(true)),
+        TypeAnswer::Done => Ok(Value::Nil),
+        TypeAnswer::Busy { .. } if asks => Ok(Value::Bool(false)),
+        TypeAnswer::Busy { .. } => Err(Stop::Busy),
+        TypeAnswer::Worn => Err(Stop::Worn),
+    }
+}
