@@ -12,7 +12,8 @@ use crate::stop::Stop;
 use crate::tables;
 use hb_names::{NAME_BYTES_MAX, NameFail, Names};
 use hb_tables::desk::Desk;
-use hb_tables::entry::{BODIES_MAX, TYPES_MAX};
+use hb_tables::entry::BODIES_MAX;
+use hb_tree::limits::TYPES_MAX;
 use hb_types::ids::{BodySite, ClassId, NodeId, TypeSite};
 use std::alloc::{AllocError, Global};
 

@@ -7,8 +7,10 @@ ghost use Rattle.hb_eval.specs.Tables.{Adds};
 
 use crate::stop::Stop;
 use crate::value::Value;
+use hb_names::NAMES_MAX;
 use hb_tables::desk::{DefAnswer, Desk, TypeAnswer};
-use hb_tables::entry::{BODIES_MAX, NAMES_MAX, TYPES_MAX};
+use hb_tables::entry::BODIES_MAX;
+use hb_tree::limits::TYPES_MAX;
 use hb_types::ids::{BodySite, KeyId, TypeSite};
 
 /// Gives a method the body of a site.
