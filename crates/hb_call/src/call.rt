@@ -15,9 +15,10 @@ ghost use Rattle.hb_tables.specs.Verdicts.{takes};
 ghost use Rattle.hb_call.specs.Held.{Holds};
 ghost use Rattle.hb_call.specs.Calling.{IsAlike, IsArgKinds, IsCalling, IsSame, answers_of};
 ghost use Rattle.hb_call.specs.Deciding.{Decided, IsVerdictBy, told};
+ghost use Rattle.hb_call.specs.Entering.{Finished};
 
 use crate::answers::{Answer, Refused, found};
-use crate::frame::{CallFail, free_keys};
+use crate::frame::{CallFail, Entered, Frame, free_keys};
 use hb_check::lookup::{LookFail, Lookup};
 use hb_check::{Checked, all_below, check};
 use hb_names::{NAMES_MAX, NameFail, Names};
@@ -27,6 +28,7 @@ use hb_tree::program::Program;
 use hb_types::ids::{BodySite, CallNo, ClassId, KeyId, NameId, TypeSite};
 use hb_types::types::MethodTy;
 use std::alloc::{AllocError, Global};
+use std::mem;
 
 /// A call that is being decided. It is the lookup of its body's check: each type at which the check looks is held first.
 #[derive(Drop)]
@@ -83,6 +85,33 @@ impl<D: Desk, N: Names> Call<'_, '_, '_, D, N> {
                     look = newer;
                 }
             }
+        }
+    }
+
+    /// Decides the call, and frees what it holds where its body may not run.
+    pub fn finish(&mut self, alloc: Global, first: Look) -> Result<Entered, CallFail>
+        requires calling { IsCalling self.old.prog.now (D.fixed self.old.desk.now) self.old.q.0 (N.known self.old.names.now) (D.front self.old.desk.now) self.old.key self.old.own self.old.held.items self.old.answers.items }
+        requires args { IsArgKinds self.old.args }
+        requires fresh { (self.old.answers.items ≡ []) × (self.old.refused ≡ None) }
+        requires named { (bytes : List ℕ) × (place (N.known self.old.names.now) (self.old.class.0, bytes) ≡ Some self.old.key.0) }
+        requires look { (before : List Entry) × IsPrefix before (D.front self.old.desk.now) × IsLookAt self.old.key.0 first before }
+        ensures desk { self.new.desk.ghost_name ≡ self.old.desk.ghost_name }
+        ensures names { self.new.names.ghost_name ≡ self.old.names.ghost_name }
+        ensures named { IsPrefix (N.known self.old.names.now) (N.known self.new.names.now) }
+        ensures kept { IsPrefix (D.front self.old.desk.now) (D.front self.new.desk.now) }
+        ensures fixed { D.fixed self.new.desk.now ≡ D.fixed self.old.desk.now }
+        ensures finished { Finished (record { t = self.old.prog.now; door = D.fixed self.old.desk.now; q = self.old.q; key = self.old.key; own = self.old.own; class = self.old.class; args = self.old.args; desk = self.old.desk.ghost_name; names = self.old.names.ghost_name }) (N.known self.new.names.now) (D.front self.old.desk.now) (D.front self.new.desk.now) result }
+    {
+        let decided = self.decide(alloc, first);
+        if let Ok((Verdict::Enter(way), Some(body))) = decided {
+            let held = mem::replace(&mut self.held, Vec::new(alloc));
+            let frame = Frame { q: self.q, key: self.key, body, held };
+            return Ok(Entered::Frame(frame, way));
+        }
+        free_keys(self.desk, self.q, &self.held);
+        match decided {
+            Ok((verdict, _)) => Ok(Entered::Refused(verdict)),
+            Err(cause) => Err(cause),
         }
     }
 

@@ -55,20 +55,5 @@ pub fn enter<D: Desk, N: Names>(
         answers: Vec::new(alloc),
         refused: None,
     };
-    let decided = call.decide(alloc, look);
-    let Call { desk, held, .. } = call;
-    match decided {
-        Ok((Verdict::Enter(way), Some(body))) => Ok(Entered::Frame(
-            Frame { q, key, body, held },
-            way,
-        )),
-        Ok((verdict, _)) => {
-            free_keys(desk, q, &held);
-            Ok(Entered::Refused(verdict))
-        }
-        Err(cause) => {
-            free_keys(desk, q, &held);
-            Err(cause)
-        }
-    }
+    call.finish(alloc, look)
 }

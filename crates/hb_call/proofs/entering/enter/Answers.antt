@@ -1,4 +1,4 @@
-use Rattle.std.proofs.Common.{◌≡◌, ◌∙◌, ◌<◌, arith}
+use Rattle.std.proofs.Common.{◌≡◌, ◌∙◌, ◌<◌, sym, ap, arith, rules}
 use Rattle.hb_names.specs.declared.names.TheConstants.{NAMES_MAX}
 use Rattle.hb_tables.specs.History.{Adds, IsLegal}
 use Rattle.hb_tables.specs.declared.entry.Act.TheVariants.{Hold}
@@ -12,8 +12,8 @@ hold-own-requires-clause-free g c = rw (c.reserve.ensures.fixed, c.reserve.ensur
 pub hold-own-requires-clause-few : goal.hold-own-requires-clause-few
 hold-own-requires-clause-few g c = rw (c.reserve.ensures.fixed, c.reserve.ensures.front) (first_room (g.D.Desk.fixed c.args.desk.now).caller c.args.q.0 c.in_ok-key.key.0 (g.D.Desk.front c.args.desk.now) c.requires.unused c.requires.room)
 
-pub decide-decided-requires-clause-calling : goal.decide-decided-requires-clause-calling
-decide-decided-requires-clause-calling g c =
+pub finish-requires-clause-calling : goal.finish-requires-clause-calling
+finish-requires-clause-calling g c =
     let door = g.D.Desk.fixed c.args.desk.now in let old = g.D.Desk.front c.args.desk.now in let mid = g.D.Desk.front c.hold-own.new.self in
     let key = c.in_ok-key.key in let known = g.N.Names.known c.key.new.self in
     let adds : Adds door.caller old mid (Hold c.args.q key c.hold-own.result.ty c.hold-own.result.changes) = rw (c.reserve.ensures.fixed, c.reserve.ensures.front) at c.hold-own.ensures.entry in
@@ -24,3 +24,15 @@ decide-decided-requires-clause-calling g c =
     let later : IsLegal door.limit (g.D.Desk.front c.look-look.new.self) = rw (c.hold-own.ensures.fixed, c.reserve.ensures.fixed) at c.look-look.ensures.legal in
     rw (c.look-look.ensures.fixed, c.hold-own.ensures.fixed, c.reserve.ensures.fixed, c.in_ok-push.ensures.items, c.new-held.ensures.items, c.new.ensures.items)
     (learned c.args.prog.now door c.args.q known mid key c.hold-own.result.ty _ _ start (g.D.Desk.front c.look-look.new.self) seen.0 later)
+
+pub returns-clause-fixed : goal.returns-clause-fixed
+returns-clause-fixed g c = c.desk-1.zzz
+
+pub returns-clause-kept : goal.returns-clause-kept
+returns-clause-kept g c = c.drop-call.zzz
+
+pub returns-clause-named : goal.returns-clause-named
+returns-clause-named g c = c.drop-call.ensures
+
+pub returns-clause-entered : goal.returns-clause-entered
+returns-clause-entered g c = c.drop-call-2.ensures
