@@ -1,6 +1,8 @@
 -- A call that is entered or refused, from what the finish of its decision comes to.
-use Rattle.std.proofs.Common.{◌≡◌, List, [], ◌++◌, Some, refl, sym, ap, ◌∙◌, subst}
-use Rattle.std.specs.Prelude.{Option, Result, Ok, Err}
+use Rattle.std.proofs.Common.{◌≡◌, ℕ, List, [], ◌++◌, Some, refl, sym, ap, ◌∙◌, subst, append_assoc}
+use Rattle.std.specs.Prelude.{Option, Result, Ok, Err, slice_get}
+use Rattle.std.specs.Option.{unwrap_or}
+use Rattle.hb_tree.specs.Canon.{bytes_at}
 use mathlib.Core.List.{IsPrefix}
 use Rattle.hb_types.specs.declared.ids.CallNo.{CallNo}
 use Rattle.hb_types.specs.declared.ids.KeyId.{KeyId}
@@ -70,3 +72,9 @@ module _ (a : Asks) (g : Given) (program : g.t ≡ a.t) (door : g.door ≡ a.doo
     none = none_of new h.none;
   }
   enters new (Err cause) h = none_of new h
+
+pub names_on : (a b c : List Name) → IsPrefix a b → IsPrefix b c → IsPrefix a c
+names_on a b c p q = (p.0 ++ q.0, sym (append_assoc a p.0 q.0) ∙ ap (λ w. w ++ q.0) p.1 ∙ q.1)
+
+pub bytes_found : (names : List (List ℕ)) (n : ℕ) (bytes : List ℕ) → slice_get names n ≡ Some bytes → bytes_at names n ≡ bytes
+bytes_found names n bytes is = ap (λ (o : Option (List ℕ)). unwrap_or o []) is

@@ -42,6 +42,7 @@ pub fn enter<D: Desk, N: Names>(
     desk.reserve(alloc, 2)?;
     let own = desk.hold(q, key).ty;
     let look = desk.look(key);
+    let mut answers = Vec::new(alloc);
     let mut call = Call {
         prog,
         q,
@@ -49,10 +50,10 @@ pub fn enter<D: Desk, N: Names>(
         args,
         desk,
         names,
-        held,
+        held: &mut held,
         key,
         own,
-        answers: Vec::new(alloc),
+        answers: &mut answers,
         refused: None,
     };
     call.finish(alloc, look)
