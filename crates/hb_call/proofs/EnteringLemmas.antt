@@ -20,7 +20,7 @@ use Rattle.hb_call.specs.declared.frame.Entered.TheVariants as entered
 use Rattle.hb_call.specs.Held.{Holds, frees, stands}
 use Rattle.hb_call.specs.Calling.{Begun, Given}
 use Rattle.hb_call.specs.Deciding.{Decided}
-use Rattle.hb_call.specs.Entering.{Asks, IsDecidedOf, IsRefused, Enters, IsFinished, GaveBack, Finished}
+use Rattle.hb_call.specs.Entering.{Asks, IsDecidedOf, Enters, IsFinished, GaveBack, Finished}
 use Rattle.hb_call.proofs.HeldLemmas.{none_stand}
 
 -- what is given back of a call that is the same as before

@@ -1,4 +1,4 @@
-use Rattle.std.proofs.Common.{◌≡◌, ◌++◌, ap, ◌∙◌}
+use Rattle.std.proofs.Common.{◌++◌, ap, ◌∙◌}
 use Rattle.hb_tables.specs.Frames.{acts}
 use Rattle.hb_call.specs.Held.{frees}
 use Rattle.hb_call.proofs.HeldLemmas.{all_stand}
