@@ -61,12 +61,12 @@ Enters a names old new (Ok (entered.Frame f way)) = (f.q ≡ a.q) × IsDecidedOf
 Enters a names old new (Ok (entered.Refused v)) = IsRefused a names old new v
 Enters a names old new (Err cause) = stands a.door.caller a.q.0 new ≡ []
 
--- The same of the call that was given: it is decided from what was seen before.
+-- The call that was given so was decided, from what was seen before, and holds these keys then.
 pub record IsFinished (g : Given) (names : List Name) (old mid : List Entry) (v : Verdict) (site : Option BodySite) (held : List KeyId) : Type 0 where
   pub decided : Decided g names old mid v site
   pub holds : Holds g.door.caller g.q.0 held mid
 
--- All that a call held was given back.
+-- The call that was given so was refused, and gave back all that it held.
 pub record GaveBack (g : Given) (names : List Name) (old new : List Entry) (v : Verdict) : Type 0 where
   pub mid : List Entry
   pub site : Option BodySite

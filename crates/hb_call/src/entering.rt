@@ -8,10 +8,10 @@ ghost use Rattle.hb_call.specs.Entering.{Enters};
 ghost use Rattle.hb_call.specs.Held.{HasRoom, stands};
 
 use crate::call::Call;
-use crate::frame::{CallFail, Entered, Frame, free_keys};
+use crate::frame::{CallFail, Entered};
 use hb_names::Names;
 use hb_tables::desk::Desk;
-use hb_tables::entry::{ArgKinds, Verdict};
+use hb_tables::entry::ArgKinds;
 use hb_tree::program::Program;
 use hb_types::ids::{CallNo, ClassId, NameId};
 use std::alloc::Global;
