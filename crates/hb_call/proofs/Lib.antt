@@ -8,3 +8,4 @@ pub mod TakesLemmas
 pub mod DecidingLemmas
 pub mod DecideLemmas
 pub mod StartLemmas
+pub mod EnteringLemmas

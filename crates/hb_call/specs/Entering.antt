@@ -60,3 +60,23 @@ abbrev pub Enters : Asks → List Name → List Entry → List Entry → Result 
 Enters a names old new (Ok (entered.Frame f way)) = (f.q ≡ a.q) × IsDecidedOf a names old new f.key (verdict.Enter way) (Some f.body) f.held.items
 Enters a names old new (Ok (entered.Refused v)) = IsRefused a names old new v
 Enters a names old new (Err cause) = stands a.door.caller a.q.0 new ≡ []
+
+-- The call that was given so was decided, from what was seen before, and holds these keys then.
+pub record IsFinished (g : Given) (names : List Name) (old mid : List Entry) (v : Verdict) (site : Option BodySite) (held : List KeyId) : Type 0 where
+  pub decided : Decided g names old mid v site
+  pub holds : Holds g.door.caller g.q.0 held mid
+
+-- The call that was given so was refused, and gave back all that it held.
+pub record GaveBack (g : Given) (names : List Name) (old new : List Entry) (v : Verdict) : Type 0 where
+  pub mid : List Entry
+  pub site : Option BodySite
+  pub held : List KeyId
+  pub finished : IsFinished g names old mid v site held
+  pub kept : IsPrefix mid new
+  pub freed : acts g.door.caller new ≡ acts g.door.caller mid ++ frees g.q held
+  pub none : stands g.door.caller g.q.0 new ≡ []
+
+abbrev pub Finished : Given → List Name → List Entry → List Entry → Result Entered CallFail → Type 0
+Finished g names old new (Ok (entered.Frame f way)) = (f.q ≡ g.q) × (f.key ≡ g.key) × IsFinished g names old new (verdict.Enter way) (Some f.body) f.held.items
+Finished g names old new (Ok (entered.Refused v)) = GaveBack g names old new v
+Finished g names old new (Err cause) = stands g.door.caller g.q.0 new ≡ []

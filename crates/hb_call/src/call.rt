@@ -15,9 +15,10 @@ ghost use Rattle.hb_tables.specs.Verdicts.{takes};
 ghost use Rattle.hb_call.specs.Held.{Holds};
 ghost use Rattle.hb_call.specs.Calling.{IsAlike, IsArgKinds, IsCalling, IsSame, answers_of};
 ghost use Rattle.hb_call.specs.Deciding.{Decided, IsVerdictBy, told};
+ghost use Rattle.hb_call.specs.Entering.{Finished};
 
 use crate::answers::{Answer, Refused, found};
-use crate::frame::{CallFail, free_keys};
+use crate::frame::{CallFail, Entered, Frame, free_keys};
 use hb_check::lookup::{LookFail, Lookup};
 use hb_check::{Checked, all_below, check};
 use hb_names::{NAMES_MAX, NameFail, Names};
@@ -28,10 +29,11 @@ use hb_tree::program::Program;
 use hb_types::ids::{BodySite, CallNo, ClassId, KeyId, NameId, TypeSite};
 use hb_types::types::MethodTy;
 use std::alloc::{AllocError, Global};
+use std::mem;
 
 /// A call that is being decided. It is the lookup of its body's check: each type at which the check looks is held first.
 #[derive(Drop)]
-pub struct Call<'p, 'd, 'n, D: Desk, N: Names> {
+pub struct Call<'p, 'd, 'n, 'k, D: Desk, N: Names> {
     pub prog: &'p Program,
     pub q: CallNo,
     pub class: ClassId,
@@ -39,26 +41,26 @@ pub struct Call<'p, 'd, 'n, D: Desk, N: Names> {
     pub desk: &'d mut D,
     pub names: &'n mut N,
     /// The keys that it holds, in the order of its holds.
-    pub held: Vec<KeyId>,
+    pub held: &'k mut Vec<KeyId>,
     /// The called method.
     pub key: KeyId,
     /// The type that the hold of this key found.
     pub own: Option<TypeSite>,
     /// What the check of the body was answered.
-    pub answers: Vec<Answer>,
+    pub answers: &'k mut Vec<Answer>,
     pub refused: Option<Refused>,
 }
 
-impl<D: Desk, N: Names> Call<'_, '_, '_, D, N> {
+impl<D: Desk, N: Names> Call<'_, '_, '_, '_, D, N> {
     /// Decides the call, by the definition that was looked at, or by a newer one that is there by then.
     pub fn decide(
         &mut self,
         alloc: Global,
         first: Look,
     ) -> Result<(Verdict, Option<BodySite>), CallFail>
-        requires calling { IsCalling self.old.prog.now (D.fixed self.old.desk.now) self.old.q.0 (N.known self.old.names.now) (D.front self.old.desk.now) self.old.key self.old.own self.old.held.items self.old.answers.items }
+        requires calling { IsCalling self.old.prog.now (D.fixed self.old.desk.now) self.old.q.0 (N.known self.old.names.now) (D.front self.old.desk.now) self.old.key self.old.own self.old.held.now.items self.old.answers.now.items }
         requires args { IsArgKinds self.old.args }
-        requires fresh { (self.old.answers.items ≡ []) × (self.old.refused ≡ None) }
+        requires fresh { (self.old.answers.now.items ≡ []) × (self.old.refused ≡ None) }
         requires named { (bytes : List ℕ) × (place (N.known self.old.names.now) (self.old.class.0, bytes) ≡ Some self.old.key.0) }
         requires look { (before : List Entry) × IsPrefix before (D.front self.old.desk.now) × IsLookAt self.old.key.0 first before }
         ensures same { IsSame (record { t = self.old.prog.now; door = D.fixed self.old.desk.now; q = self.old.q; key = self.old.key; own = self.old.own; class = self.old.class; args = self.old.args; desk = self.old.desk.ghost_name; names = self.old.names.ghost_name }) (record { t = self.new.prog.now; door = D.fixed self.new.desk.now; q = self.new.q; key = self.new.key; own = self.new.own; class = self.new.class; args = self.new.args; desk = self.new.desk.ghost_name; names = self.new.names.ghost_name }) }
@@ -67,7 +69,7 @@ impl<D: Desk, N: Names> Call<'_, '_, '_, D, N> {
         ensures named { IsPrefix (N.known self.old.names.now) (N.known self.new.names.now) }
         ensures kept { IsPrefix (D.front self.old.desk.now) (D.front self.new.desk.now) }
         ensures goes { OnErr result (IsAlike (record { t = self.old.prog.now; door = D.fixed self.old.desk.now; q = self.old.q; key = self.old.key; own = self.old.own; class = self.old.class; args = self.old.args; desk = self.old.desk.ghost_name; names = self.old.names.ghost_name }) (record { t = self.new.prog.now; door = D.fixed self.new.desk.now; q = self.new.q; key = self.new.key; own = self.new.own; class = self.new.class; args = self.new.args; desk = self.new.desk.ghost_name; names = self.new.names.ghost_name }) (N.known self.old.names.now) (N.known self.new.names.now) (D.front self.old.desk.now) (D.front self.new.desk.now)) }
-        ensures holds { Holds (D.fixed self.new.desk.now).caller self.new.q.0 self.new.held.items (D.front self.new.desk.now) }
+        ensures holds { Holds (D.fixed self.new.desk.now).caller self.new.q.0 self.new.held.now.items (D.front self.new.desk.now) }
         ensures decided { IfOk result (λ r. Decided (record { t = self.new.prog.now; door = D.fixed self.new.desk.now; q = self.new.q; key = self.new.key; own = self.new.own; class = self.new.class; args = self.new.args; desk = self.new.desk.ghost_name; names = self.new.names.ghost_name }) (N.known self.new.names.now) (D.front self.old.desk.now) (D.front self.new.desk.now) r.0 r.1) }
     {
         let mut look = first;
@@ -87,14 +89,46 @@ impl<D: Desk, N: Names> Call<'_, '_, '_, D, N> {
         }
     }
 
+    /// Decides the call, and frees what it holds where its body may not run.
+    pub fn finish(&mut self, alloc: Global, first: Look) -> Result<Entered, CallFail>
+        requires calling { IsCalling self.old.prog.now (D.fixed self.old.desk.now) self.old.q.0 (N.known self.old.names.now) (D.front self.old.desk.now) self.old.key self.old.own self.old.held.now.items self.old.answers.now.items }
+        requires args { IsArgKinds self.old.args }
+        requires fresh { (self.old.answers.now.items ≡ []) × (self.old.refused ≡ None) }
+        requires named { (bytes : List ℕ) × (place (N.known self.old.names.now) (self.old.class.0, bytes) ≡ Some self.old.key.0) }
+        requires look { (before : List Entry) × IsPrefix before (D.front self.old.desk.now) × IsLookAt self.old.key.0 first before }
+        ensures desk { self.new.desk.ghost_name ≡ self.old.desk.ghost_name }
+        ensures names { self.new.names.ghost_name ≡ self.old.names.ghost_name }
+        ensures named { IsPrefix (N.known self.old.names.now) (N.known self.new.names.now) }
+        ensures kept { IsPrefix (D.front self.old.desk.now) (D.front self.new.desk.now) }
+        ensures fixed { D.fixed self.new.desk.now ≡ D.fixed self.old.desk.now }
+        ensures finished { Finished (record { t = self.old.prog.now; door = D.fixed self.old.desk.now; q = self.old.q; key = self.old.key; own = self.old.own; class = self.old.class; args = self.old.args; desk = self.old.desk.ghost_name; names = self.old.names.ghost_name }) (N.known self.new.names.now) (D.front self.old.desk.now) (D.front self.new.desk.now) result }
+    {
+        let decided = self.decide(alloc, first);
+        if let Ok((Verdict::Enter(way), Some(body))) = decided {
+            let held = mem::replace(self.held, Vec::new(alloc));
+            let frame = Frame {
+                q: self.q,
+                key: self.key,
+                body,
+                held,
+            };
+            return Ok(Entered::Frame(frame, way));
+        }
+        free_keys(self.desk, self.q, self.held);
+        match decided {
+            Ok((verdict, _)) => Ok(Entered::Refused(verdict)),
+            Err(cause) => Err(cause),
+        }
+    }
+
     // The verdict on the call with this definition. The keys on which it rests are held.
     fn verdict(&mut self, alloc: Global, site: Option<BodySite>) -> Result<Verdict, CallFail>
-        requires calling { IsCalling self.old.prog.now (D.fixed self.old.desk.now) self.old.q.0 (N.known self.old.names.now) (D.front self.old.desk.now) self.old.key self.old.own self.old.held.items self.old.answers.items }
+        requires calling { IsCalling self.old.prog.now (D.fixed self.old.desk.now) self.old.q.0 (N.known self.old.names.now) (D.front self.old.desk.now) self.old.key self.old.own self.old.held.now.items self.old.answers.now.items }
         requires args { IsArgKinds self.old.args }
-        requires fresh { (self.old.answers.items ≡ []) × (self.old.refused ≡ None) }
-        ensures calling { IsCalling self.new.prog.now (D.fixed self.new.desk.now) self.new.q.0 (N.known self.new.names.now) (D.front self.new.desk.now) self.new.key self.new.own self.new.held.items self.new.answers.items }
+        requires fresh { (self.old.answers.now.items ≡ []) × (self.old.refused ≡ None) }
+        ensures calling { IsCalling self.new.prog.now (D.fixed self.new.desk.now) self.new.q.0 (N.known self.new.names.now) (D.front self.new.desk.now) self.new.key self.new.own self.new.held.now.items self.new.answers.now.items }
         ensures alike { IsAlike (record { t = self.old.prog.now; door = D.fixed self.old.desk.now; q = self.old.q; key = self.old.key; own = self.old.own; class = self.old.class; args = self.old.args; desk = self.old.desk.ghost_name; names = self.old.names.ghost_name }) (record { t = self.new.prog.now; door = D.fixed self.new.desk.now; q = self.new.q; key = self.new.key; own = self.new.own; class = self.new.class; args = self.new.args; desk = self.new.desk.ghost_name; names = self.new.names.ghost_name }) (N.known self.old.names.now) (N.known self.new.names.now) (D.front self.old.desk.now) (D.front self.new.desk.now) }
-        ensures verdict { IfOk result (IsVerdictBy self.new.prog.now self.new.class.0 site self.new.own (kinds_of self.new.args) (answers_of self.new.answers.items)) }
+        ensures verdict { IfOk result (IsVerdictBy self.new.prog.now self.new.class.0 site self.new.own (kinds_of self.new.args) (answers_of self.new.answers.now.items)) }
     {
         let Some(body) = site else {
             return Ok(Verdict::NoBody);
@@ -117,10 +151,10 @@ impl<D: Desk, N: Names> Call<'_, '_, '_, D, N> {
 
     // Gives back all keys but the called method's own.
     fn retreat(&mut self)
-        requires calling { IsCalling self.old.prog.now (D.fixed self.old.desk.now) self.old.q.0 (N.known self.old.names.now) (D.front self.old.desk.now) self.old.key self.old.own self.old.held.items self.old.answers.items }
-        ensures calling { IsCalling self.new.prog.now (D.fixed self.new.desk.now) self.new.q.0 (N.known self.new.names.now) (D.front self.new.desk.now) self.new.key self.new.own self.new.held.items self.new.answers.items }
+        requires calling { IsCalling self.old.prog.now (D.fixed self.old.desk.now) self.old.q.0 (N.known self.old.names.now) (D.front self.old.desk.now) self.old.key self.old.own self.old.held.now.items self.old.answers.now.items }
+        ensures calling { IsCalling self.new.prog.now (D.fixed self.new.desk.now) self.new.q.0 (N.known self.new.names.now) (D.front self.new.desk.now) self.new.key self.new.own self.new.held.now.items self.new.answers.now.items }
         ensures alike { IsAlike (record { t = self.old.prog.now; door = D.fixed self.old.desk.now; q = self.old.q; key = self.old.key; own = self.old.own; class = self.old.class; args = self.old.args; desk = self.old.desk.ghost_name; names = self.old.names.ghost_name }) (record { t = self.new.prog.now; door = D.fixed self.new.desk.now; q = self.new.q; key = self.new.key; own = self.new.own; class = self.new.class; args = self.new.args; desk = self.new.desk.ghost_name; names = self.new.names.ghost_name }) (N.known self.old.names.now) (N.known self.new.names.now) (D.front self.old.desk.now) (D.front self.new.desk.now) }
-        ensures fresh { (self.new.answers.items ≡ []) × (self.new.refused ≡ None) }
+        ensures fresh { (self.new.answers.now.items ≡ []) × (self.new.refused ≡ None) }
     {
         free_keys(self.desk, self.q, &self.held[1..]);
         self.held.truncate(1);
@@ -135,12 +169,12 @@ impl<D: Desk, N: Names> Call<'_, '_, '_, D, N> {
         class: ClassId,
         name: NameId,
     ) -> Result<Option<TypeSite>, LookFail>
-        requires calling { IsCalling self.old.prog.now (D.fixed self.old.desk.now) self.old.q.0 (N.known self.old.names.now) (D.front self.old.desk.now) self.old.key self.old.own self.old.held.items self.old.answers.items }
-        ensures calling { IsCalling self.new.prog.now (D.fixed self.new.desk.now) self.new.q.0 (N.known self.new.names.now) (D.front self.new.desk.now) self.new.key self.new.own self.new.held.items self.new.answers.items }
+        requires calling { IsCalling self.old.prog.now (D.fixed self.old.desk.now) self.old.q.0 (N.known self.old.names.now) (D.front self.old.desk.now) self.old.key self.old.own self.old.held.now.items self.old.answers.now.items }
+        ensures calling { IsCalling self.new.prog.now (D.fixed self.new.desk.now) self.new.q.0 (N.known self.new.names.now) (D.front self.new.desk.now) self.new.key self.new.own self.new.held.now.items self.new.answers.now.items }
         ensures alike { IsAlike (record { t = self.old.prog.now; door = D.fixed self.old.desk.now; q = self.old.q; key = self.old.key; own = self.old.own; class = self.old.class; args = self.old.args; desk = self.old.desk.ghost_name; names = self.old.names.ghost_name }) (record { t = self.new.prog.now; door = D.fixed self.new.desk.now; q = self.new.q; key = self.new.key; own = self.new.own; class = self.new.class; args = self.new.args; desk = self.new.desk.ghost_name; names = self.new.names.ghost_name }) (N.known self.old.names.now) (N.known self.new.names.now) (D.front self.old.desk.now) (D.front self.new.desk.now) }
         ensures below { IfOk result (λ site. IfSome site (λ s. s.0 < TYPES_MAX)) }
-        ensures answer { IfOk result (λ site. answers_of self.new.answers.items ≡ answers_of self.old.answers.items ++ asked class name site ∷ []) }
-        ensures none { OnErr result (self.new.answers.items ≡ self.old.answers.items) }
+        ensures answer { IfOk result (λ site. answers_of self.new.answers.now.items ≡ answers_of self.old.answers.now.items ++ asked class name site ∷ []) }
+        ensures none { OnErr result (self.new.answers.now.items ≡ self.old.answers.now.items) }
         ensures refused { self.new.refused ≡ self.old.refused }
     {
         // No body of a program calls a method by another name than the program's.
@@ -166,14 +200,14 @@ impl<D: Desk, N: Names> Call<'_, '_, '_, D, N> {
         name: NameId,
         key: KeyId,
     ) -> Result<Option<TypeSite>, AllocError>
-        requires calling { IsCalling self.old.prog.now (D.fixed self.old.desk.now) self.old.q.0 (N.known self.old.names.now) (D.front self.old.desk.now) self.old.key self.old.own self.old.held.items self.old.answers.items }
+        requires calling { IsCalling self.old.prog.now (D.fixed self.old.desk.now) self.old.q.0 (N.known self.old.names.now) (D.front self.old.desk.now) self.old.key self.old.own self.old.held.now.items self.old.answers.now.items }
         requires name { place (N.known self.old.names.now) (name_of self.old.prog.now (class.0, name.0)) ≡ Some key.0 }
         requires below { key.0 < NAMES_MAX }
-        ensures calling { IsCalling self.new.prog.now (D.fixed self.new.desk.now) self.new.q.0 (N.known self.new.names.now) (D.front self.new.desk.now) self.new.key self.new.own self.new.held.items self.new.answers.items }
+        ensures calling { IsCalling self.new.prog.now (D.fixed self.new.desk.now) self.new.q.0 (N.known self.new.names.now) (D.front self.new.desk.now) self.new.key self.new.own self.new.held.now.items self.new.answers.now.items }
         ensures alike { IsAlike (record { t = self.old.prog.now; door = D.fixed self.old.desk.now; q = self.old.q; key = self.old.key; own = self.old.own; class = self.old.class; args = self.old.args; desk = self.old.desk.ghost_name; names = self.old.names.ghost_name }) (record { t = self.new.prog.now; door = D.fixed self.new.desk.now; q = self.new.q; key = self.new.key; own = self.new.own; class = self.new.class; args = self.new.args; desk = self.new.desk.ghost_name; names = self.new.names.ghost_name }) (N.known self.old.names.now) (N.known self.new.names.now) (D.front self.old.desk.now) (D.front self.new.desk.now) }
         ensures below { IfOk result (λ site. IfSome site (λ s. s.0 < TYPES_MAX)) }
-        ensures answer { IfOk result (λ site. answers_of self.new.answers.items ≡ answers_of self.old.answers.items ++ asked class name site ∷ []) }
-        ensures none { OnErr result (self.new.answers.items ≡ self.old.answers.items) }
+        ensures answer { IfOk result (λ site. answers_of self.new.answers.now.items ≡ answers_of self.old.answers.now.items ++ asked class name site ∷ []) }
+        ensures none { OnErr result (self.new.answers.now.items ≡ self.old.answers.now.items) }
         ensures refused { self.new.refused ≡ self.old.refused }
     {
         self.answers.reserve(1)?;
@@ -189,11 +223,11 @@ impl<D: Desk, N: Names> Call<'_, '_, '_, D, N> {
 
     // The type of a key that the call holds, or that it takes now.
     fn type_held(&mut self, alloc: Global, key: KeyId) -> Result<Option<TypeSite>, AllocError>
-        requires calling { IsCalling self.old.prog.now (D.fixed self.old.desk.now) self.old.q.0 (N.known self.old.names.now) (D.front self.old.desk.now) self.old.key self.old.own self.old.held.items self.old.answers.items }
+        requires calling { IsCalling self.old.prog.now (D.fixed self.old.desk.now) self.old.q.0 (N.known self.old.names.now) (D.front self.old.desk.now) self.old.key self.old.own self.old.held.now.items self.old.answers.now.items }
         requires below { key.0 < NAMES_MAX }
-        ensures calling { OnErr result (IsCalling self.new.prog.now (D.fixed self.new.desk.now) self.new.q.0 (N.known self.new.names.now) (D.front self.new.desk.now) self.new.key self.new.own self.new.held.items self.new.answers.items) }
+        ensures calling { OnErr result (IsCalling self.new.prog.now (D.fixed self.new.desk.now) self.new.q.0 (N.known self.new.names.now) (D.front self.new.desk.now) self.new.key self.new.own self.new.held.now.items self.new.answers.now.items) }
         ensures with_answer { IfOk result (λ site. (class : ClassId) (name : NameId) → place (N.known self.old.names.now) (name_of self.old.prog.now (class.0, name.0)) ≡ Some key.0
-            → IsCalling self.new.prog.now (D.fixed self.new.desk.now) self.new.q.0 (N.known self.new.names.now) (D.front self.new.desk.now) self.new.key self.new.own self.new.held.items (self.old.answers.items ++ record { class = class; name = name; key = key; site = site } ∷ [])) }
+            → IsCalling self.new.prog.now (D.fixed self.new.desk.now) self.new.q.0 (N.known self.new.names.now) (D.front self.new.desk.now) self.new.key self.new.own self.new.held.now.items (self.old.answers.now.items ++ record { class = class; name = name; key = key; site = site } ∷ [])) }
         ensures alike { IsAlike (record { t = self.old.prog.now; door = D.fixed self.old.desk.now; q = self.old.q; key = self.old.key; own = self.old.own; class = self.old.class; args = self.old.args; desk = self.old.desk.ghost_name; names = self.old.names.ghost_name }) (record { t = self.new.prog.now; door = D.fixed self.new.desk.now; q = self.new.q; key = self.new.key; own = self.new.own; class = self.new.class; args = self.new.args; desk = self.new.desk.ghost_name; names = self.new.names.ghost_name }) (N.known self.old.names.now) (N.known self.new.names.now) (D.front self.old.desk.now) (D.front self.new.desk.now) }
         ensures names { N.known self.new.names.now ≡ N.known self.old.names.now }
         ensures below { IfOk result (λ site. IfSome site (λ s. s.0 < TYPES_MAX)) }
@@ -203,7 +237,7 @@ impl<D: Desk, N: Names> Call<'_, '_, '_, D, N> {
         if key.0 == self.key.0 {
             return Ok(self.own);
         }
-        if let Some(site) = found(&self.answers, key) {
+        if let Some(site) = found(self.answers, key) {
             return Ok(site);
         }
         self.held.reserve(1)?;
@@ -237,13 +271,13 @@ fn takes(ty: &MethodTy, args: &ArgKinds) -> bool
     all_below(&args.kinds[..count], &ty.params[..count])
 }
 
-impl<D: Desk, N: Names> Lookup for Call<'_, '_, '_, D, N> {
+impl<D: Desk, N: Names> Lookup for Call<'_, '_, '_, '_, D, N> {
     ghost use Rattle.std.proofs.Common.{refl};
     ghost use Rattle.hb_tree.specs.declared.limits.TheConstants.{TYPES_MAX};
     ghost use Rattle.hb_call.specs.Calling.{IsCalling, IsAlike, answers_of, refusal_of};
     ghost use Rattle.hb_call.specs.Alike.{alike_itself, alike_on};
 
-    ghost answers = { λ s. answers_of s.answers.items };
+    ghost answers = { λ s. answers_of s.answers.now.items };
 
     ghost refused = { λ s. refusal_of s.refused };
 
@@ -257,7 +291,7 @@ impl<D: Desk, N: Names> Lookup for Call<'_, '_, '_, D, N> {
 
     ghost bound_stays = { λ a b e. refl };
 
-    ghost ready = { λ s. IsCalling s.prog.now (D.fixed s.desk.now) s.q.0 (N.known s.names.now) (D.front s.desk.now) s.key s.own s.held.items s.answers.items };
+    ghost ready = { λ s. IsCalling s.prog.now (D.fixed s.desk.now) s.q.0 (N.known s.names.now) (D.front s.desk.now) s.key s.own s.held.now.items s.answers.now.items };
 
     fn type_of(
         &mut self,

@@ -3,6 +3,8 @@
 
 mod answers;
 mod call;
+mod entering;
 mod frame;
 
+pub use entering::enter;
 pub use frame::{CallFail, Entered, Frame, leave};

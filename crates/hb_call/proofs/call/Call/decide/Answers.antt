@@ -29,7 +29,7 @@ returns-in-Ok-clause-holds g c =
     let given : Given = record { t = s.prog.now; door = g.D.Desk.fixed s.desk.now; q = s.q; key = s.key; own = s.own; class = s.class; args = s.args; desk = s.desk.ghost_name; names = s.names.ghost_name } in
     let d = rw (c.reserve.ensures.fixed, c.reserve.ensures.front) at c.in-Ok.ensures.answer in
     let legal : IsLegal (g.D.Desk.fixed s.desk.now).limit (g.D.Desk.front c.decide.new.self) = rw (c.reserve.ensures.fixed) at c.decide.ensures.legal in
-    rw (c.decide.ensures.fixed, c.reserve.ensures.fixed) (call_holds given (g.N.Names.known s.names.now) (g.D.Desk.front s.desk.now) s.held.items s.answers.items c.verdict.ensures.calling (g.D.Desk.front c.decide.new.self) c.loop-verdict.look.site c.in_ok-verdict.verdict d.0 d.1 d.2 legal)
+    rw (c.decide.ensures.fixed, c.reserve.ensures.fixed) (call_holds given (g.N.Names.known s.names.now) (g.D.Desk.front s.desk.now) s.held.now.items s.answers.now.items c.verdict.ensures.calling (g.D.Desk.front c.decide.new.self) c.loop-verdict.look.site c.in_ok-verdict.verdict d.0 d.1 d.2 legal)
 
 pub returns-in-Ok-clause-decided : goal.returns-in-Ok-clause-decided
 returns-in-Ok-clause-decided g c =
@@ -40,7 +40,7 @@ returns-in-Ok-clause-decided g c =
     let legal : IsLegal (g.D.Desk.fixed s.desk.now).limit (g.D.Desk.front c.decide.new.self) = rw (c.reserve.ensures.fixed) at c.decide.ensures.legal in
     let all = alike_on _ _ _ _ _ _ _ _ _ c.loop-verdict.invariant.alike a in
     let goes = subst (λ (h : Given). Goes h (g.N.Names.known c.args.self.now.names.now) known (g.D.Desk.front c.args.self.now.desk.now) log) all.same all.goes in
-    rw (c.decide.ensures.fixed, c.reserve.ensures.fixed) (call_decided given known log s.held.items s.answers.items c.verdict.ensures.calling (g.D.Desk.front c.decide.new.self) c.loop-verdict.look.site c.in_ok-verdict.verdict d.0 d.1 d.2 legal named.0
+    rw (c.decide.ensures.fixed, c.reserve.ensures.fixed) (call_decided given known log s.held.now.items s.answers.now.items c.verdict.ensures.calling (g.D.Desk.front c.decide.new.self) c.loop-verdict.look.site c.in_ok-verdict.verdict d.0 d.1 d.2 legal named.0
     (subst (λ (h : Given). place known (h.class.0, named.0) ≡ Some h.key.0) a.same (place-longer _ known (c.loop-verdict.self.class.0, named.0) c.loop-verdict.self.key.0 a.goes.named named.1))
     d.3.0 c.in_ok-verdict.ensures.verdict (g.D.Desk.front c.args.self.now.desk.now) (goes.begun (kinds_of s.args)))
 
@@ -49,7 +49,7 @@ retreat-requires g c =
     let s = c.verdict.new.self in
     let d = rw (c.reserve.ensures.fixed, c.reserve.ensures.front) at c.in-Err.ensures.answer in
     let legal : IsLegal (g.D.Desk.fixed s.desk.now).limit (g.D.Desk.front c.decide.new.self) = rw (c.reserve.ensures.fixed) at c.decide.ensures.legal in
-    record { calling = rw (c.decide.ensures.fixed, c.reserve.ensures.fixed) (learned s.prog.now (g.D.Desk.fixed s.desk.now) s.q (g.N.Names.known s.names.now) (g.D.Desk.front s.desk.now) s.key s.own s.held.items s.answers.items c.verdict.ensures.calling (g.D.Desk.front c.decide.new.self) d.0 legal) }
+    record { calling = rw (c.decide.ensures.fixed, c.reserve.ensures.fixed) (learned s.prog.now (g.D.Desk.fixed s.desk.now) s.q (g.N.Names.known s.names.now) (g.D.Desk.front s.desk.now) s.key s.own s.held.now.items s.answers.now.items c.verdict.ensures.calling (g.D.Desk.front c.decide.new.self) d.0 legal) }
 
 pub loop-verdict-preserved : goal.loop-verdict-preserved
 loop-verdict-preserved g c =

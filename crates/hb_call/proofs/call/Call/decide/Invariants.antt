@@ -9,9 +9,9 @@ use Rattle.hb_call.proofs.call.Call.decide.Given as goal
 -- the call goes on with a look that is true of what its caller has seen
 abbrev pub invariant-loop-verdict : goal.invariant-loop-verdict
 invariant-loop-verdict g l = record {
-  calling : IsCalling l.self.prog.now (g.D.Desk.fixed l.self.desk.now) l.self.q.0 (g.N.Names.known l.self.names.now) (g.D.Desk.front l.self.desk.now) l.self.key l.self.own l.self.held.items l.self.answers.items;
+  calling : IsCalling l.self.prog.now (g.D.Desk.fixed l.self.desk.now) l.self.q.0 (g.N.Names.known l.self.names.now) (g.D.Desk.front l.self.desk.now) l.self.key l.self.own l.self.held.now.items l.self.answers.now.items;
   args : IsArgKinds l.self.args;
-  answers : l.self.answers.items ≡ [];
+  answers : l.self.answers.now.items ≡ [];
   refused : l.self.refused ≡ None;
   named : (bytes : List ℕ) × (place (g.N.Names.known l.self.names.now) (l.self.class.0, bytes) ≡ Some l.self.key.0);
   look : (before : List Entry) × IsPrefix before (g.D.Desk.front l.self.desk.now) × IsLookAt l.self.key.0 l.look before;

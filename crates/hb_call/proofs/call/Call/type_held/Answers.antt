@@ -11,7 +11,7 @@ use Rattle.hb_call.proofs.call.Call.type_held.Goals as goal
 pub returns-then-key-self-clause-with_answer : goal.returns-then-key-self-clause-with_answer
 returns-then-key-self-clause-with_answer g c class name place =
     let s = c.args.self.now in let h = c.requires.calling in
-    noted s.prog.now (g.D.Desk.fixed s.desk.now) s.q _ _ s.key s.own s.held.items s.answers.items h (record { class = class; name = name; key = c.args.key; site = s.own }) place
+    noted s.prog.now (g.D.Desk.fixed s.desk.now) s.q _ _ s.key s.own s.held.now.items s.answers.now.items h (record { class = class; name = name; key = c.args.key; site = s.own }) place
     (subst (λ (k : ℕ). HasType (g.D.Desk.front s.desk.now) ((g.D.Desk.fixed s.desk.now).caller, s.q.0) k s.own) (sym c.if-key-self.true) h.own_is)
 
 pub returns-then-key-self-clause-below : goal.returns-then-key-self-clause-below
@@ -20,41 +20,41 @@ returns-then-key-self-clause-below g c = let s = c.args.self.now in let h = c.re
 pub returns-in-Some-clause-with_answer : goal.returns-in-Some-clause-with_answer
 returns-in-Some-clause-with_answer g c class name place =
     let s = c.args.self.now in let h = c.requires.calling in
-    let is : Some c.in-Some.site ≡ type_among s.answers.items c.args.key.0 = sym c.in-Some.is ∙ c.found.ensures ∙ ap (λ l. type_among l c.args.key.0) c.deref.ensures.value in
-    noted s.prog.now (g.D.Desk.fixed s.desk.now) s.q _ _ s.key s.own s.held.items s.answers.items h (record { class = class; name = name; key = c.args.key; site = c.in-Some.site }) place
-    (type_found s.prog.now (g.N.Names.known s.names.now) (g.D.Desk.front s.desk.now) ((g.D.Desk.fixed s.desk.now).caller, s.q.0) s.answers.items c.args.key.0 c.in-Some.site h.answered is)
+    let is : Some c.in-Some.site ≡ type_among s.answers.now.items c.args.key.0 = sym c.in-Some.is ∙ c.found.ensures ∙ ap (λ l. type_among l c.args.key.0) c.deref.ensures.value in
+    noted s.prog.now (g.D.Desk.fixed s.desk.now) s.q _ _ s.key s.own s.held.now.items s.answers.now.items h (record { class = class; name = name; key = c.args.key; site = c.in-Some.site }) place
+    (type_found s.prog.now (g.N.Names.known s.names.now) (g.D.Desk.front s.desk.now) ((g.D.Desk.fixed s.desk.now).caller, s.q.0) s.answers.now.items c.args.key.0 c.in-Some.site h.answered is)
 
 pub returns-in-Some-clause-below : goal.returns-in-Some-clause-below
 returns-in-Some-clause-below g c =
     let s = c.args.self.now in let h = c.requires.calling in
-    let is : Some c.in-Some.site ≡ type_among s.answers.items c.args.key.0 = sym c.in-Some.is ∙ c.found.ensures ∙ ap (λ l. type_among l c.args.key.0) c.deref.ensures.value in
+    let is : Some c.in-Some.site ≡ type_among s.answers.now.items c.args.key.0 = sym c.in-Some.is ∙ c.found.ensures ∙ ap (λ l. type_among l c.args.key.0) c.deref.ensures.value in
     site_below (g.D.Desk.fixed s.desk.now).limit c.args.key.0 (g.D.Desk.front s.desk.now) c.in-Some.site h.legal
-    (type_found s.prog.now (g.N.Names.known s.names.now) (g.D.Desk.front s.desk.now) ((g.D.Desk.fixed s.desk.now).caller, s.q.0) s.answers.items c.args.key.0 c.in-Some.site h.answered is).1
+    (type_found s.prog.now (g.N.Names.known s.names.now) (g.D.Desk.front s.desk.now) ((g.D.Desk.fixed s.desk.now).caller, s.q.0) s.answers.now.items c.args.key.0 c.in-Some.site h.answered is).1
 
 pub hold-site-requires-clause-free : goal.hold-site-requires-clause-free
 hold-site-requires-clause-free g c =
     let s = c.args.self.now in let h = c.requires.calling in
-    let is : None ≡ type_among s.answers.items c.args.key.0 = sym c.in_default.is ∙ c.found.ensures ∙ ap (λ l. type_among l c.args.key.0) c.deref.ensures.value in
-    rw (c.reserve-2.ensures.fixed, c.reserve-2.ensures.front) (not_held s.prog.now (g.D.Desk.fixed s.desk.now) s.q _ _ s.key s.own s.held.items s.answers.items h c.args.key.0 c.if-key-self.false is)
+    let is : None ≡ type_among s.answers.now.items c.args.key.0 = sym c.in_default.is ∙ c.found.ensures ∙ ap (λ l. type_among l c.args.key.0) c.deref.ensures.value in
+    rw (c.reserve-2.ensures.fixed, c.reserve-2.ensures.front) (not_held s.prog.now (g.D.Desk.fixed s.desk.now) s.q _ _ s.key s.own s.held.now.items s.answers.now.items h c.args.key.0 c.if-key-self.false is)
 
 pub hold-site-requires-clause-few : goal.hold-site-requires-clause-few
 hold-site-requires-clause-few g c =
     let s = c.args.self.now in let h = c.requires.calling in
-    let is : None ≡ type_among s.answers.items c.args.key.0 = sym c.in_default.is ∙ c.found.ensures ∙ ap (λ l. type_among l c.args.key.0) c.deref.ensures.value in
-    let none = not_held s.prog.now (g.D.Desk.fixed s.desk.now) s.q _ _ s.key s.own s.held.items s.answers.items h c.args.key.0 c.if-key-self.false is in
-    rw (c.reserve-2.ensures.fixed, c.reserve-2.ensures.front) (has_room s.prog.now (g.D.Desk.fixed s.desk.now) s.q _ _ s.key s.own s.held.items s.answers.items h c.args.key.0 none)
+    let is : None ≡ type_among s.answers.now.items c.args.key.0 = sym c.in_default.is ∙ c.found.ensures ∙ ap (λ l. type_among l c.args.key.0) c.deref.ensures.value in
+    let none = not_held s.prog.now (g.D.Desk.fixed s.desk.now) s.q _ _ s.key s.own s.held.now.items s.answers.now.items h c.args.key.0 c.if-key-self.false is in
+    rw (c.reserve-2.ensures.fixed, c.reserve-2.ensures.front) (has_room s.prog.now (g.D.Desk.fixed s.desk.now) s.q _ _ s.key s.own s.held.now.items s.answers.now.items h c.args.key.0 none)
 
 pub returns-clause-with_answer : goal.returns-clause-with_answer
 returns-clause-with_answer g c class name place =
     let s = c.args.self.now in let h = c.requires.calling in let door = g.D.Desk.fixed s.desk.now in
     let old = g.D.Desk.front s.desk.now in let new = g.D.Desk.front c.hold-site.new.self in
-    let is : None ≡ type_among s.answers.items c.args.key.0 = sym c.in_default.is ∙ c.found.ensures ∙ ap (λ l. type_among l c.args.key.0) c.deref.ensures.value in
-    let none = not_held s.prog.now door s.q _ _ s.key s.own s.held.items s.answers.items h c.args.key.0 c.if-key-self.false is in
+    let is : None ≡ type_among s.answers.now.items c.args.key.0 = sym c.in_default.is ∙ c.found.ensures ∙ ap (λ l. type_among l c.args.key.0) c.deref.ensures.value in
+    let none = not_held s.prog.now door s.q _ _ s.key s.own s.held.now.items s.answers.now.items h c.args.key.0 c.if-key-self.false is in
     let same : g.D.Desk.fixed c.hold-site.new.self ≡ door = c.hold-site.ensures.fixed ∙ c.reserve-2.ensures.fixed in
     let adds : Adds door.caller old new (Hold s.q c.args.key c.hold-site.result.ty c.hold-site.result.changes) = rw (c.reserve-2.ensures.fixed, c.reserve-2.ensures.front) at c.hold-site.ensures.entry in
     let legal : IsLegal door.limit new = rw (c.reserve-2.ensures.fixed) at c.hold-site.ensures.legal in
     rw (same, c.push_reserved.ensures.items, c.in_ok-reserve.ensures.items)
-    (holding s.prog.now door s.q _ old s.key s.own s.held.items s.answers.items h new c.args.key c.hold-site.result.ty c.hold-site.result.changes (record { class = class; name = name; key = c.args.key; site = c.hold-site.result.ty }) adds legal none c.requires.below refl refl place)
+    (holding s.prog.now door s.q _ old s.key s.own s.held.now.items s.answers.now.items h new c.args.key c.hold-site.result.ty c.hold-site.result.changes (record { class = class; name = name; key = c.args.key; site = c.hold-site.result.ty }) adds legal none c.requires.below refl refl place)
 
 pub returns-clause-alike : goal.returns-clause-alike
 returns-clause-alike g c =

@@ -1,0 +1,60 @@
+//! The entry into a call.
+
+ghost use Rattle.std.specs.Prelude.{◌≡◌, ◌<◌, [], length};
+ghost use mathlib.Core.List.{IsPrefix};
+ghost use Rattle.hb_tree.specs.Canon.{bytes_at};
+ghost use Rattle.hb_call.specs.Calling.{IsArgKinds};
+ghost use Rattle.hb_call.specs.Entering.{Enters};
+ghost use Rattle.hb_call.specs.Held.{HasRoom, stands};
+
+use crate::call::Call;
+use crate::frame::{CallFail, Entered};
+use hb_names::Names;
+use hb_tables::desk::Desk;
+use hb_tables::entry::ArgKinds;
+use hb_tree::program::Program;
+use hb_types::ids::{CallNo, ClassId, NameId};
+use std::alloc::Global;
+
+/// Decides the call `q` of a class's method with arguments of these kinds. Where its body may run, the call holds the keys on which that rests until its frame ends.
+pub fn enter<D: Desk, N: Names>(
+    alloc: Global,
+    prog: &Program,
+    q: CallNo,
+    class: ClassId,
+    name: NameId,
+    args: ArgKinds,
+    desk: &mut D,
+    names: &mut N,
+) -> Result<Entered, CallFail>
+    requires name { name.0 < length prog.now.names }
+    requires args { IsArgKinds args }
+    requires unused { stands (D.fixed desk.old).caller q.0 (D.front desk.old) ≡ [] }
+    requires room { HasRoom (D.front desk.old) (D.fixed desk.old).caller q.0 }
+    ensures entered { Enters (record { t = prog.now; door = D.fixed desk.old; q = q; class = class; bytes = bytes_at prog.now.names name.0; args = args }) (N.known names.new) (D.front desk.old) (D.front desk.new) result }
+    ensures kept { IsPrefix (D.front desk.old) (D.front desk.new) }
+    ensures named { IsPrefix (N.known names.old) (N.known names.new) }
+    ensures fixed { D.fixed desk.new ≡ D.fixed desk.old }
+{
+    let key = names.key(alloc, class, prog.name(name))?;
+    let mut held = Vec::new(alloc);
+    held.push(key)?;
+    desk.reserve(alloc, 2)?;
+    let own = desk.hold(q, key).ty;
+    let look = desk.look(key);
+    let mut answers = Vec::new(alloc);
+    let mut call = Call {
+        prog,
+        q,
+        class,
+        args,
+        desk,
+        names,
+        held: &mut held,
+        key,
+        own,
+        answers: &mut answers,
+        refused: None,
+    };
+    call.finish(alloc, look)
+}
