@@ -1,8 +1,9 @@
 -- An entry that fits keeps what the fields of the plain tables say.
-use Rattle.std.proofs.Common.{◌≡◌, ◌≢◌, Ok, ℕ, zero, suc, ◌+◌, ◌-◌, ◌<◌, ◌≤◌, ◌⊎◌, inl, inr, ⊎_elim, List, [], ◌∷◌, ◌++◌, length, get_or, set, sym, refl, ap, ◌∙◌, subst, arith, length-set, Some, slice_get, ne_eqb, replicate}
-use Rattle.std.proofs.lemmas.List.{append-nil, length-replicate}
+use Rattle.std.proofs.Common.{◌≡◌, ◌≢◌, Ok, ℕ, zero, suc, ◌+◌, ◌-◌, ◌<◌, ◌≤◌, ◌⊎◌, inl, inr, ⊎_elim, List, [], ◌∷◌, ◌++◌, length, length-append, drop, get_or, set, sym, refl, ap, ◌∙◌, subst, arith, length-set, Some, slice_get, ne_eqb, replicate}
+use Rattle.std.proofs.lemmas.List.{append-nil, drop-append-le, length-replicate}
 use Rattle.std.proofs.lemmas.Option.{slice_get_read}
 use mathlib.Core.List.{IsPrefix}
+use Rattle.hb_tree.proofs.Lists.{each_append}
 use Rattle.hb_types.specs.declared.ids.CallNo.{CallNo}
 use Rattle.hb_types.specs.declared.ids.KeyId.{KeyId}
 use Rattle.hb_names.specs.declared.names.TheConstants.{NAMES_MAX}
@@ -16,7 +17,7 @@ use Rattle.hb_tables.specs.declared.desk.Look.{Look}
 use Rattle.hb_tables.specs.declared.plain.KeyState.{KeyState}
 use Rattle.hb_tables.specs.History.{times, of_caller, Spot, spot, key_of, done, journal, entry, FitsAct, IsLegal, Adds, Learns}
 use Rattle.hb_tables.specs.Answers.{IsLookAt, Decides}
-use Rattle.hb_tables.specs.Plain.{Matches, AreTables, holds_in}
+use Rattle.hb_tables.specs.Plain.{Tables, Matches, AreTables, holds_in, AreOwn, IsOpen}
 use Rattle.hb_tables.proofs.HistoryLemmas.{legal_none, legal_more, spread, spot_more, turn_here, turn_else, journal_append, own_calls, sound, redefs_grow, redefs_same}
 use Rattle.hb_tables.proofs.CallLemmas.{length_without, at_most}
 use Rattle.hb_tables.proofs.SumLemmas.{total_zero, total_one, total_at}
@@ -68,6 +69,14 @@ owes limit log states owed k w inside = let t = total_at NAMES_MAX k (λ j. leng
 -- the state that is kept of a key
 pub matches_at : (limit : ℕ) (log : List Entry) (states : List KeyState) (owed : ℕ) (key : KeyId) (s : KeyState) → AreTables limit log states owed → key.0 < NAMES_MAX → s ≡ get_or states key.0 s → Matches s (spot key.0 log)
 matches_at limit log states owed key s w inside read = w.match key.0 s (slice_get_read states NAMES_MAX key.0 s (sym w.wide) inside read)
+
+-- one more entry of the caller whose door is open
+pub open_more : (c opened : ℕ) (log : List Entry) (act : Act) → IsOpen c opened log → IsOpen c opened (log ++ entry c act ∷ [])
+open_more c opened log act w = record {
+  low = w.low;
+  before = (let n = length-append log (entry c act ∷ []) in let b = w.before in omega (arith, n, b));
+  own = subst (AreOwn c) (sym (drop-append-le opened log (entry c act ∷ []) w.before)) (each_append (λ e. e.caller.0 ≡ c) (drop opened log) (entry c act ∷ []) w.own (refl, tt));
+}
 
 -- few calls hold a key
 pub pins_low : (limit : ℕ) (log : List Entry) (states : List KeyState) (owed : ℕ) (k : ℕ) → AreTables limit log states owed → length (spot k log).calls ≤ 1048832
@@ -137,15 +146,16 @@ tables_none limit b low blank = record {
   owed_is = sym (total_zero NAMES_MAX);
 }
 
--- an act by which no hold begins or ends
+-- an act by which no hold begins or ends, where its rules are told of what is seen of the tables
 pub written_tables : (limit : ℕ) (log : List Entry) (states : List KeyState) (owed c : ℕ) (act : Act) (key : KeyId) (next : KeyState) → AreTables limit log states owed → c < 256 → (key.0 < NAMES_MAX) × (key_of act ≡ key.0)
-    → (seen : List Entry) → log ≡ seen → (most : ℕ) → limit ≡ most → FitsAct most c (spot key.0 seen) act → Matches next (done c (spot key.0 seen) act) → length (done c (spot key.0 seen) act).calls ≡ length (spot key.0 seen).calls
+    → (seen : Tables) → c ≡ seen.caller → log ≡ seen.log → limit ≡ seen.limit → FitsAct seen.limit seen.caller (spot key.0 seen.log) act → Matches next (done seen.caller (spot key.0 seen.log) act)
+    → length (done seen.caller (spot key.0 seen.log) act).calls ≡ length (spot key.0 seen.log).calls
     → AreTables limit (log ++ entry c act ∷ []) (set states key.0 next) owed
-written_tables limit log states owed c act key next w low at seen seen_is most most_is fits same calls =
+written_tables limit log states owed c act key next w low at seen caller_is log_is limit_is fits same calls =
     let k = sym at.1 in
-    let fits : FitsAct limit c (spot key.0 log) act = subst (λ m. FitsAct m c (spot key.0 log) act) (sym most_is) (subst (λ l. FitsAct most c (spot key.0 l) act) (sym seen_is) fits) in
-    let same : Matches next (done c (spot key.0 log) act) = subst (λ l. Matches next (done c (spot key.0 l) act)) (sym seen_is) same in
-    let calls : length (done c (spot key.0 log) act).calls ≡ length (spot key.0 log).calls = subst (λ l. length (done c (spot key.0 l) act).calls ≡ length (spot key.0 l).calls) (sym seen_is) calls in
+    let fits : FitsAct limit c (spot key.0 log) act = rw (limit_is, caller_is, log_is) fits in
+    let same : Matches next (done c (spot key.0 log) act) = rw (caller_is, log_is) same in
+    let calls : length (done c (spot key.0 log) act).calls ≡ length (spot key.0 log).calls = rw (caller_is, log_is) calls in
     subst (λ j. AreTables limit (log ++ entry c act ∷ []) (set states j next) owed) at.1
     (tables_more limit log states owed c act next owed w low (subst (λ j. j < NAMES_MAX) k at.0) (subst (λ j. FitsAct limit c (spot j log) act) k fits) (subst (λ j. Matches next (done c (spot j log) act)) k same)
     (subst (λ j. owed + length (spot j log).calls ≡ owed + length (done c (spot j log) act).calls) k (omega (arith, calls))))

@@ -15,7 +15,7 @@ use Rattle.hb_tables.specs.declared.desk.DefAnswer.{DefAnswer}
 use Rattle.hb_tables.specs.declared.desk.DefAnswer.TheVariants as defined
 use Rattle.hb_tables.specs.History.{spot, journal, entry, Adds, Learns}
 
--- the caller, the limit of changes, and the names of what the desk was made with
+-- the caller, the limit of changes, and numbers that tell what the desk was made with
 pub record Fixed : Type 0 where
   pub caller : ℕ
   pub limit : ℕ

@@ -1,13 +1,16 @@
 -- The plain tables: what is seen of them, and what their fields keep.
-use Rattle.std.specs.Prelude.{◌≡◌, ℕ, zero, suc, ◌+◌, ◌≤◌, List, [], length, slice_get, Some}
+use Rattle.std.specs.Prelude.{◌≡◌, ℕ, zero, suc, ◌+◌, ◌<◌, ◌≤◌, List, [], length, drop, slice_get, Some}
+use Rattle.std.specs.List.{AllByRecursion}
 use Rattle.hb_names.specs.declared.names.TheConstants.{NAMES_MAX}
 use Rattle.hb_tables.specs.declared.entry.TheConstants.{VERSIONS_MAX}
 use Rattle.hb_tables.specs.declared.entry.Entry.{Entry}
 use Rattle.hb_tables.specs.declared.plain.KeyState.{KeyState}
 use Rattle.hb_tables.specs.History.{Spot, spot, journal, IsLegal}
 
--- the history, the limit of changes, and for how many more entries there is room
+-- whose door was opened last and how many entries there were then, the history, the limit of changes, and for how many more entries there is room
 pub record Tables : Type 0 where
+  pub caller : ℕ
+  pub opened : ℕ
   pub log : List Entry
   pub limit : ℕ
   pub spare : ℕ
@@ -33,3 +36,13 @@ pub record AreTables (limit : ℕ) (log : List Entry) (states : List KeyState) (
   pub wide : length states ≡ NAMES_MAX
   pub match : (k : ℕ) (s : KeyState) → slice_get states k ≡ Some s → Matches s (spot k log)
   pub owed_is : owed ≡ holds_in log
+
+-- each of these entries is the caller's own
+abbrev pub AreOwn : ℕ → List Entry → Type 0
+AreOwn c log = AllByRecursion (λ e. e.caller.0 ≡ c) log
+
+-- The entries behind those that there were when the caller's door was opened are its own.
+pub record IsOpen (c opened : ℕ) (log : List Entry) : Type 0 where
+  pub low : c < 256
+  pub before : opened ≤ length log
+  pub own : AreOwn c (drop opened log)

@@ -1,12 +1,12 @@
 //! Plain tables: a history, and the state of each key.
 
-ghost use Rattle.std.specs.Prelude.{◌≡◌, ◌+◌, ◌<◌, ◌≤◌, ◌∷◌, [], ◌++◌, List, length, IfOk};
+ghost use Rattle.std.specs.Prelude.{◌≡◌, ◌+◌, ◌<◌, ◌≤◌, ◌∷◌, [], ◌++◌, List, length, drop, IfOk};
 ghost use mathlib.Core.List.{IsPrefix};
 ghost use Rattle.hb_tables.specs.declared.entry.Entry.{Entry};
 ghost use Rattle.hb_tables.specs.declared.entry.Act.TheVariants.{Hold, Free};
 ghost use Rattle.hb_tables.specs.History.{spot, times, of_caller, key_of, done, entry, FitsAct, IsLegal, Adds};
 ghost use Rattle.hb_tables.specs.Answers.{TypeAdds, DefAdds, IsLookAt, Decides};
-ghost use Rattle.hb_tables.specs.Plain.{Matches};
+ghost use Rattle.hb_tables.specs.Plain.{Matches, AreOwn};
 
 use crate::desk::{DefAnswer, Held, Look, TypeAnswer};
 use crate::entry::{Act, ArgKinds, BODIES_MAX, Entry, HOLDS_MAX, VERSIONS_MAX, Verdict};
@@ -47,60 +47,72 @@ pub struct PlainTables {
     /// How many holds stand, each of which will want room for one more entry.
     owed: usize,
     versions: u32,
+    /// Whose door was opened last.
+    caller: CallerId,
+    /// How many entries there were then.
+    opened: usize,
 }
 
 impl Model for PlainTables {
     ghost use Rattle.std.specs.Prelude.{◌+◌, ◌-◌, ◌≤◌, vec_len, vec_capacity};
-    ghost use Rattle.hb_tables.specs.Plain.{Tables, AreTables};
+    ghost use Rattle.hb_tables.specs.Plain.{Tables, AreTables, IsOpen};
 
     ghost Value = { Tables };
 
-    ghost view = { λ t. record { log = t.history.items; limit = t.versions; spare = vec_capacity t.history - (vec_len t.history + t.owed) } };
+    ghost view = { λ t. record { caller = t.caller.0; opened = t.opened; log = t.history.items; limit = t.versions; spare = vec_capacity t.history - (vec_len t.history + t.owed) } };
 
-    ghost invariant = { λ t. AreTables t.versions t.history.items t.states.items t.owed × (vec_len t.history + t.owed ≤ vec_capacity t.history) };
+    ghost invariant = { λ t. AreTables t.versions t.history.items t.states.items t.owed × (vec_len t.history + t.owed ≤ vec_capacity t.history) × IsOpen t.caller.0 t.opened t.history.items };
 }
 
 impl PlainTables {
-    /// Tables in which a type and a definition may be changed `versions` times each, with no entry yet.
+    /// Tables in which a type and a definition may be changed `versions` times each, with no entry yet, for the setup.
     pub fn new(alloc: Global, versions: u32) -> Result<PlainTables, AllocError>
         requires { (1 ≤ versions) × (versions ≤ VERSIONS_MAX) }
-        ensures { IfOk result (λ t. (t.log ≡ []) × (t.limit ≡ versions)) }
+        ensures { IfOk result (λ t. (t.log ≡ []) × (t.limit ≡ versions) × (t.caller ≡ 0) × (t.opened ≡ 0)) }
     {
         Ok(PlainTables {
             history: Vec::new(alloc),
             states: vec![in alloc; BLANK; NAMES_MAX]?,
             owed: 0,
             versions,
+            caller: CallerId(0),
+            opened: 0,
         })
     }
 
     /// The door of a caller. When it ends, the history is what it knew last.
     pub fn desk(&mut self, caller: CallerId) -> PlainDesk<'_>
         ensures reference { result.tables.ghost_name ≡ self.entry.ghost_name }
-        ensures tables { result.tables.now ≡ self.old }
-        ensures caller { result.caller ≡ caller }
+        ensures tables { result.tables.now ≡ record self.old { caller = caller.0; opened = length self.old.log } }
     {
-        PlainDesk {
-            caller: CallerId(caller.0),
-            tables: self,
-        }
+        self.caller = caller;
+        self.opened = self.history.len();
+        PlainDesk { tables: self }
     }
 
-    /// All entries so far.
+    /// All entries so far. Those that were made since the last door was opened are its caller's.
     pub fn history(&self) -> &[Entry]
         ensures all { result.now ≡ self.now.log }
         ensures legal { IsLegal self.now.limit self.now.log }
+        ensures own { AreOwn self.now.caller (drop self.now.opened self.now.log) }
     {
         &self.history
     }
 
     pub(crate) fn reserve(&mut self, n: u32) -> Result<(), AllocError>
         ensures log { self.new.log ≡ self.old.log }
+        ensures door { (self.new.caller ≡ self.old.caller) × (self.new.opened ≡ self.old.opened) }
         ensures limit { self.new.limit ≡ self.old.limit }
         ensures spare { IfOk result (λ _. n ≤ self.new.spare) }
     {
         let wanted = self.owed.checked_add(n as usize).ok_or(AllocError)?;
         self.history.reserve(wanted)
+    }
+
+    pub(crate) fn caller(&self) -> CallerId
+        ensures { result.0 ≡ self.now.caller }
+    {
+        self.caller
     }
 
     fn state(&self, key: KeyId) -> KeyState
@@ -113,15 +125,15 @@ impl PlainTables {
     }
 
     // Writes an act down that is no hold and no free, with the state of its key behind it.
-    fn write(&mut self, caller: CallerId, act: Act, key: KeyId, next: KeyState)
-        requires caller { caller.0 < 256 }
+    fn write(&mut self, act: Act, key: KeyId, next: KeyState)
         requires key { (key.0 < NAMES_MAX) × (key_of act ≡ key.0) }
-        requires fits { FitsAct self.old.limit caller.0 (spot key.0 self.old.log) act }
-        requires next { Matches next (done caller.0 (spot key.0 self.old.log) act) }
-        requires calls { length (done caller.0 (spot key.0 self.old.log) act).calls ≡ length (spot key.0 self.old.log).calls }
+        requires fits { FitsAct self.old.limit self.old.caller (spot key.0 self.old.log) act }
+        requires next { Matches next (done self.old.caller (spot key.0 self.old.log) act) }
+        requires calls { length (done self.old.caller (spot key.0 self.old.log) act).calls ≡ length (spot key.0 self.old.log).calls }
         requires room { 1 ≤ self.old.spare }
-        ensures log { self.new.log ≡ self.old.log ++ entry caller.0 act ∷ [] }
-        ensures adds { Adds caller.0 self.old.log self.new.log act }
+        ensures log { self.new.log ≡ self.old.log ++ entry self.old.caller act ∷ [] }
+        ensures adds { Adds self.old.caller self.old.log self.new.log act }
+        ensures door { (self.new.caller ≡ self.old.caller) × (self.new.opened ≡ self.old.opened) }
         ensures limit { self.new.limit ≡ self.old.limit }
         ensures spare { self.old.spare ≤ self.new.spare + 1 }
         ensures legal { IsLegal self.new.limit self.new.log }
@@ -129,19 +141,23 @@ impl PlainTables {
         let PlainTables {
             history,
             states,
+            caller,
             ..
         } = self;
         states[key.0 as usize] = next;
-        history.push_reserved(Entry { caller, act });
+        history.push_reserved(Entry {
+            caller: *caller,
+            act,
+        });
     }
 
-    pub(crate) fn hold(&mut self, caller: CallerId, q: CallNo, key: KeyId) -> Held
-        requires caller { caller.0 < 256 }
+    pub(crate) fn hold(&mut self, q: CallNo, key: KeyId) -> Held
         requires key { key.0 < NAMES_MAX }
-        requires free { times (caller.0, q.0) (spot key.0 self.old.log).calls ≡ 0 }
-        requires few { length (of_caller caller.0 (spot key.0 self.old.log).calls) < HOLDS_MAX }
+        requires free { times (self.old.caller, q.0) (spot key.0 self.old.log).calls ≡ 0 }
+        requires few { length (of_caller self.old.caller (spot key.0 self.old.log).calls) < HOLDS_MAX }
         requires room { 2 ≤ self.old.spare }
-        ensures adds { Adds caller.0 self.old.log self.new.log (Hold q key result.ty result.changes) }
+        ensures adds { Adds self.old.caller self.old.log self.new.log (Hold q key result.ty result.changes) }
+        ensures door { (self.new.caller ≡ self.old.caller) × (self.new.opened ≡ self.old.opened) }
         ensures limit { self.new.limit ≡ self.old.limit }
         ensures spare { self.old.spare ≤ self.new.spare + 2 }
         ensures legal { IsLegal self.new.limit self.new.log }
@@ -150,6 +166,7 @@ impl PlainTables {
             history,
             states,
             owed,
+            caller,
             ..
         } = self;
         let state = states[key.0 as usize];
@@ -163,7 +180,7 @@ impl PlainTables {
             ..state
         };
         history.push_reserved(Entry {
-            caller,
+            caller: *caller,
             act: Act::Hold {
                 q,
                 key,
@@ -174,11 +191,11 @@ impl PlainTables {
         held
     }
 
-    pub(crate) fn free(&mut self, caller: CallerId, q: CallNo, key: KeyId)
-        requires caller { caller.0 < 256 }
+    pub(crate) fn free(&mut self, q: CallNo, key: KeyId)
         requires key { key.0 < NAMES_MAX }
-        requires held { times (caller.0, q.0) (spot key.0 self.old.log).calls ≡ 1 }
-        ensures adds { Adds caller.0 self.old.log self.new.log (Free q key) }
+        requires held { times (self.old.caller, q.0) (spot key.0 self.old.log).calls ≡ 1 }
+        ensures adds { Adds self.old.caller self.old.log self.new.log (Free q key) }
+        ensures door { (self.new.caller ≡ self.old.caller) × (self.new.opened ≡ self.old.opened) }
         ensures limit { self.new.limit ≡ self.old.limit }
         ensures spare { self.old.spare ≤ self.new.spare }
         ensures legal { IsLegal self.new.limit self.new.log }
@@ -187,6 +204,7 @@ impl PlainTables {
             history,
             states,
             owed,
+            caller,
             ..
         } = self;
         let state = states[key.0 as usize];
@@ -196,17 +214,17 @@ impl PlainTables {
             ..state
         };
         history.push_reserved(Entry {
-            caller,
+            caller: *caller,
             act: Act::Free { q, key },
         });
     }
 
-    pub(crate) fn set_type(&mut self, caller: CallerId, key: KeyId, site: TypeSite) -> TypeAnswer
-        requires caller { caller.0 < 256 }
+    pub(crate) fn set_type(&mut self, key: KeyId, site: TypeSite) -> TypeAnswer
         requires key { key.0 < NAMES_MAX }
         requires site { site.0 < TYPES_MAX }
         requires room { 1 ≤ self.old.spare }
-        ensures adds { TypeAdds caller.0 self.old.log self.new.log key site result }
+        ensures adds { TypeAdds self.old.caller self.old.log self.new.log key site result }
+        ensures door { (self.new.caller ≡ self.old.caller) × (self.new.opened ≡ self.old.opened) }
         ensures limit { self.new.limit ≡ self.old.limit }
         ensures spare { self.old.spare ≤ self.new.spare + 1 }
         ensures legal { IsLegal self.new.limit self.new.log }
@@ -214,11 +232,11 @@ impl PlainTables {
         let state = self.state(key);
         let pins = state.pins;
         if pins > 0 {
-            self.write(caller, Act::Busy { key, pins }, key, state);
+            self.write(Act::Busy { key, pins }, key, state);
             return TypeAnswer::Busy { pins };
         }
         if state.changes == self.limit() {
-            self.write(caller, Act::WornType { key }, key, state);
+            self.write(Act::WornType { key }, key, state);
             return TypeAnswer::Worn;
         }
         let next = KeyState {
@@ -226,7 +244,7 @@ impl PlainTables {
             changes: state.changes + 1,
             ..state
         };
-        self.write(caller, Act::Retype { key, site }, key, next);
+        self.write(Act::Retype { key, site }, key, next);
         TypeAnswer::Done
     }
 
@@ -248,19 +266,19 @@ impl PlainTables {
         }
     }
 
-    pub(crate) fn set_def(&mut self, caller: CallerId, key: KeyId, site: BodySite) -> DefAnswer
-        requires caller { caller.0 < 256 }
+    pub(crate) fn set_def(&mut self, key: KeyId, site: BodySite) -> DefAnswer
         requires key { key.0 < NAMES_MAX }
         requires site { site.0 < BODIES_MAX }
         requires room { 1 ≤ self.old.spare }
-        ensures adds { DefAdds caller.0 self.old.log self.new.log key site result }
+        ensures adds { DefAdds self.old.caller self.old.log self.new.log key site result }
+        ensures door { (self.new.caller ≡ self.old.caller) × (self.new.opened ≡ self.old.opened) }
         ensures limit { self.new.limit ≡ self.old.limit }
         ensures spare { self.old.spare ≤ self.new.spare + 1 }
         ensures legal { IsLegal self.new.limit self.new.log }
     {
         let state = self.state(key);
         if state.redefs == self.limit() {
-            self.write(caller, Act::WornDef { key }, key, state);
+            self.write(Act::WornDef { key }, key, state);
             return DefAnswer::Worn;
         }
         let next = KeyState {
@@ -268,13 +286,12 @@ impl PlainTables {
             redefs: state.redefs + 1,
             ..state
         };
-        self.write(caller, Act::Define { key, site }, key, next);
+        self.write(Act::Define { key, site }, key, next);
         DefAnswer::Done
     }
 
     pub(crate) fn decide(
         &mut self,
-        caller: CallerId,
         q: CallNo,
         key: KeyId,
         owner: KeyId,
@@ -282,12 +299,12 @@ impl PlainTables {
         args: ArgKinds,
         verdict: Verdict,
     ) -> Result<(), Look>
-        requires caller { caller.0 < 256 }
         requires key { key.0 < NAMES_MAX }
         requires owner { owner.0 < NAMES_MAX }
         requires look { (before : List Entry) × IsPrefix before self.old.log × IsLookAt owner.0 look before }
         requires room { 1 ≤ self.old.spare }
-        ensures answer { Decides caller.0 self.old.log self.new.log q key owner look args verdict result }
+        ensures answer { Decides self.old.caller self.old.log self.new.log q key owner look args verdict result }
+        ensures door { (self.new.caller ≡ self.old.caller) × (self.new.opened ≡ self.old.opened) }
         ensures limit { self.new.limit ≡ self.old.limit }
         ensures spare { self.old.spare ≤ self.new.spare + 1 }
         ensures legal { IsLegal self.new.limit self.new.log }
@@ -304,7 +321,7 @@ impl PlainTables {
             args,
             verdict,
         };
-        self.write(caller, act, key, state);
+        self.write(act, key, state);
         Ok(())
     }
 }

@@ -1,7 +1,8 @@
 //! One caller's door to plain tables.
 
-ghost use Rattle.std.specs.Prelude.{◌≡◌, ◌<◌, ◌≤◌};
+ghost use Rattle.std.specs.Prelude.{◌≡◌, ◌≤◌, length, drop};
 ghost use Rattle.hb_tables.specs.Answers.{DefAdds};
+ghost use Rattle.hb_tables.specs.Plain.{AreOwn};
 
 use crate::desk::{DefAnswer, Desk, Held, Look, TypeAnswer};
 use crate::entry::{ArgKinds, Verdict};
@@ -12,9 +13,7 @@ use std::alloc::{AllocError, Global};
 /// One caller's door to plain tables. What it knows is the whole history.
 #[derive(Drop)]
 pub struct PlainDesk<'a> {
-    pub(crate) caller: CallerId,
     pub(crate) tables: &'a mut PlainTables,
-    ghost small: { caller.0 < 256 },
 }
 
 impl Desk for PlainDesk<'_> {
@@ -22,12 +21,12 @@ impl Desk for PlainDesk<'_> {
 
     ghost front = { λ d. d.tables.now.log };
 
-    ghost fixed = { λ d. record { caller = d.caller.0; limit = d.tables.now.limit; made_with = d.tables.ghost_name ∷ [] } };
+    ghost fixed = { λ d. record { caller = d.tables.now.caller; limit = d.tables.now.limit; made_with = d.tables.ghost_name ∷ d.tables.now.opened ∷ [] } };
 
     ghost spare = { λ d. d.tables.now.spare };
 
     fn caller(&self) -> CallerId {
-        self.caller
+        self.tables.caller()
     }
 
     fn reserve(&mut self, alloc: Global, n: u32) -> Result<(), AllocError> {
@@ -35,15 +34,15 @@ impl Desk for PlainDesk<'_> {
     }
 
     fn hold(&mut self, q: CallNo, key: KeyId) -> Held {
-        self.tables.hold(self.caller, q, key)
+        self.tables.hold(q, key)
     }
 
     fn free(&mut self, q: CallNo, key: KeyId) {
-        self.tables.free(self.caller, q, key)
+        self.tables.free(q, key)
     }
 
     fn set_type(&mut self, key: KeyId, site: TypeSite) -> TypeAnswer {
-        self.tables.set_type(self.caller, key, site)
+        self.tables.set_type(key, site)
     }
 
     fn look(&mut self, key: KeyId) -> Look {
@@ -51,7 +50,7 @@ impl Desk for PlainDesk<'_> {
     }
 
     fn set_def(&mut self, key: KeyId, site: BodySite) -> DefAnswer {
-        self.tables.set_def(self.caller, key, site)
+        self.tables.set_def(key, site)
     }
 
     fn decide(
@@ -63,8 +62,7 @@ impl Desk for PlainDesk<'_> {
         args: ArgKinds,
         verdict: Verdict,
     ) -> Result<(), Look> {
-        self.tables
-            .decide(self.caller, q, key, owner, look, args, verdict)
+        self.tables.decide(q, key, owner, look, args, verdict)
     }
 }
 
@@ -165,13 +163,16 @@ mod tests {
         desk.set_def(KEY, BodySite(4))
     }
 
-    // Behind the desk the tables are what it knew last.
+    // Behind the desk the tables are what it knew last, and what came since it was opened is its caller's own.
     fn set_plain(tables: &mut PlainTables) -> DefAnswer
         requires { 1 ≤ tables.old.spare }
-        ensures { DefAdds 0 tables.old.log tables.new.log KEY (record { 0 = 4 }) result }
+        ensures entry { DefAdds 1 tables.old.log tables.new.log KEY (record { 0 = 4 }) result }
+        ensures own { AreOwn 1 (drop (length tables.old.log) tables.new.log) }
     {
-        let mut desk = tables.desk(CallerId(0));
-        set(&mut desk)
+        let mut desk = tables.desk(CallerId(1));
+        let answer = set(&mut desk);
+        tables.history();
+        answer
     }
 
     #[test]

@@ -6,4 +6,4 @@ pub invariant_of-result : goal.invariant_of-result
 invariant_of-result c =
     let n = c.new.ensures.len in let none = c.new.ensures.items in
     let blank = c.in_ok-vec.ensures.items_if_clones_equal (λ y e. e) in
-    (rw (none, blank) (tables_none c.args.versions _ c.requires.1 (λ k. (refl, refl, refl, refl, refl))), omega (arith, n))
+    (rw (none, blank) (tables_none c.args.versions _ c.requires.1 (λ k. (refl, refl, refl, refl, refl))), omega (arith, n), record { low = omega arith; before = omega arith; own = rw none tt })
