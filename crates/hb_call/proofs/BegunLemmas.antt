@@ -1,8 +1,8 @@
 -- What a call reads goes on with each act.
-use Rattle.std.proofs.Common.{◌≡◌, ℕ, Bool, true, false, cond, List, [], ◌∷◌, ◌++◌, sym, refl, ap, ◌∙◌, eq-eqb, append_assoc, nat_eq}
+use Rattle.std.proofs.Common.{◌≡◌, ℕ, Bool, true, false, cond, eqb, List, [], ◌∷◌, ◌++◌, sym, refl, ap, ◌∙◌, eq-eqb, append_assoc, nat_eq}
 use Rattle.std.proofs.lemmas.List.{append-nil}
-use Rattle.std.specs.Prelude.{Option}
-use mathlib.Core.List.{IsPrefix}
+use Rattle.std.specs.Prelude.{Option, ◌&&◌}
+use Rattle.std.proofs.lemmas.Bool.{eqb-true}
 use Rattle.hb_types.specs.declared.ids.KeyId.{KeyId}
 use Rattle.hb_types.specs.declared.ids.CallNo.{CallNo}
 use Rattle.hb_types.specs.declared.ids.TypeSite.{TypeSite}
@@ -10,23 +10,21 @@ use Rattle.hb_types.specs.declared.ids.BodySite.{BodySite}
 use Rattle.hb_types.specs.declared.types.Ty.{Ty}
 use Rattle.hb_types.specs.declared.types.Ty.TheVariants as ty
 use Rattle.hb_types.specs.Types.{same_ty}
-use Rattle.hb_names.specs.Names.{Name}
 use Rattle.hb_tables.specs.declared.entry.ArgKinds.{ArgKinds}
 use Rattle.hb_tables.specs.declared.entry.Verdict.{Verdict}
 use Rattle.hb_tables.specs.declared.entry.Entry.{Entry}
 use Rattle.hb_tables.specs.declared.entry.Act.{Act}
 use Rattle.hb_tables.specs.declared.entry.Act.TheVariants.{Hold, Call}
-use Rattle.hb_tables.specs.Answers.{Fixed}
 use Rattle.hb_tables.specs.History.{Adds, Learns}
 use Rattle.hb_tables.specs.Rows.{kinds_of}
-use Rattle.hb_tables.specs.Frames.{acts}
+use Rattle.hb_tables.specs.Frames.{acts, KeepsHold}
 use Rattle.hb_tables.specs.Standing.{Stand, all_but, standing, standing_from}
-use Rattle.hb_tables.proofs.DeskLemmas.{adds_prefix, learns_acts, adds_apart}
+use Rattle.hb_tables.proofs.DeskLemmas.{learns_acts, adds_apart}
 use Rattle.hb_tables.proofs.FrontLemmas.{adds_act}
 use Rattle.hb_tables.proofs.StandingLemmas.{standing_append}
 use Rattle.hb_call.specs.Reading.{Lost, decision, call_of, called, same_kinds}
 use Rattle.hb_call.specs.Held.{frees, stands}
-use Rattle.hb_call.specs.Calling.{Begun, Given, IsAlike}
+use Rattle.hb_call.specs.Calling.{Begun}
 use Rattle.hb_call.proofs.CallingLemmas.{hold_stands}
 
 -- acts that take a decision from these Holds to those go on
@@ -52,6 +50,14 @@ begun_learns c q key kinds start old new learns b =
 abbrev pub AreOthers : ℕ → List KeyId → Type 0
 AreOthers k [] = Unit {0}
 AreOthers k (key ∷ keys) = (nat_eq key.0 k ≡ false) × AreOthers k keys
+
+pub keeps_others : (q : CallNo) (k : ℕ) (others : List KeyId) → AreOthers k others → KeepsHold q.0 k (frees q others)
+keeps_others q k [] h = tt
+keeps_others q k (key ∷ others) h = (by (eqb k key.0) refl, keeps_others q k others h.1)
+  where
+    by : (x : Bool) → eqb k key.0 ≡ x → (eqb q.0 q.0 && eqb k key.0) ≡ false
+    by true x = absurd (let u = eq-eqb key.0 k (sym (eqb-true k key.0 x)) in let v = h.0 in cc)
+    by false x = let e = eq-eqb q.0 q.0 refl in rw (e, x) refl
 
 frees_read : (q : CallNo) (key : KeyId) (kinds : List Ty) (others : List KeyId) (hs : List Stand) (l : List Act) → AreOthers key.0 others → decision q.0 key.0 kinds hs (frees q others ++ l) ≡ decision q.0 key.0 kinds (standing_from q.0 hs (frees q others)) l
 frees_read q key kinds [] hs l h = refl
@@ -99,16 +105,3 @@ call_ends c q key site args v start old new adds b =
           let one : decision q.0 key.0 (kinds_of args) (stands c q.0 old) (a ∷ l) ≡ called q.0 site v (stands c q.0 old) l = rw (e, k, s) refl in
           ap (call_of q.0 key.0 (kinds_of args)) (append_assoc b.made (a ∷ []) l) ∙ b.reads (a ∷ l) ∙ one ∙ ap (λ hs. called q.0 site v hs l) (sym same),
     )
-
--- a call whose desk is the same goes on
-pub alike_hold : (g : Given) (door : Fixed) (names : List Name) (old new : List Entry) (j : KeyId) (ty : Option TypeSite) (n : ℕ) → door ≡ g.door → Adds g.door.caller old new (Hold g.q j ty n) → IsAlike g (record g { door = door }) names names old new
-alike_hold g door names old new j ty n is adds = record {
-  same = ap (λ (d : Fixed). record g { door = d }) (sym is);
-  goes = record { named = ([], append-nil names); kept = adds_prefix g.door.caller old new (Hold g.q j ty n) adds; begun = λ kinds start b. begun_hold g.door.caller g.q g.key j kinds ty n start old new adds b };
-}
-
-pub alike_frees : (g : Given) (door : Fixed) (names : List Name) (old new : List Entry) (others : List KeyId) → door ≡ g.door → IsPrefix old new → acts g.door.caller new ≡ acts g.door.caller old ++ frees g.q others → AreOthers g.key.0 others → IsAlike g (record g { door = door }) names names old new
-alike_frees g door names old new others is kept more h = record {
-  same = ap (λ (d : Fixed). record g { door = d }) (sym is);
-  goes = record { named = ([], append-nil names); kept = kept; begun = λ kinds start b. begun_frees g.door.caller g.q g.key kinds others start old new more h b };
-}

@@ -28,8 +28,9 @@ use Rattle.hb_tables.proofs.AddingLemmas.{held_after}
 use Rattle.hb_tables.proofs.StandingLemmas.{held_stands, count_last}
 use Rattle.hb_call.specs.declared.answers.Answer.{Answer}
 use Rattle.hb_call.specs.Held.{stands}
-use Rattle.hb_call.specs.Calling.{HasType, AreTrue, IsAmong, IsCalling, type_among}
+use Rattle.hb_call.specs.Calling.{HasType, AreTrue, IsAmong, IsAskedFor, IsCalling, type_among}
 use Rattle.hb_call.proofs.RoomLemmas.{room_hold}
+use Rattle.hb_call.proofs.GrowthLemmas.{asked_on, whole_hold}
 use Rattle.hb_call.proofs.StayLemmas.{hold_finds, held_once, type_stays, answers_stay, acts_last}
 
 true_named : (t : Table) (names known : List Name) (log : List Entry) (x : ℕ × ℕ) (answers : List Answer) → IsPrefix names known → AreTrue t names log x answers → AreTrue t known log x answers
@@ -98,7 +99,7 @@ held_then c q key ty n old new k h one = go (eqb k key.0) refl
     go true e = inl (eqb-true k key.0 e)
     go false e = inr (let a = is ∙ ap (λ b. count_of k (stands c q.0 old) + cond b 1 0) e in let d = held_stands c q.0 k old in omega (arith, one, a, d))
 
-module _ (t : Table) (door : Fixed) (q : CallNo) (names : List Name) (log : List Entry) (key : KeyId) (own : Option TypeSite) (held : List KeyId) (answers : List Answer) (h : IsCalling t door q.0 names log key own held answers) where
+module _ (t : Table) (door : Fixed) (q : CallNo) (names asked : List Name) (log : List Entry) (key : KeyId) (own : Option TypeSite) (held : List KeyId) (answers : List Answer) (h : IsCalling t door q.0 names asked log key own held answers) where
   -- a key that is neither the call's own nor among the answers is not held
   pub not_held : (k : ℕ) → k ≢ key.0 → None ≡ type_among answers k → times (door.caller, q.0) (spot k log).calls ≡ 0
   not_held k other none = go (times (door.caller, q.0) (spot k log).calls) refl ((sound door.limit log h.legal k).once (door.caller, q.0))
@@ -111,7 +112,7 @@ module _ (t : Table) (door : Fixed) (q : CallNo) (names : List Name) (log : List
   pub has_room : (k : ℕ) → times (door.caller, q.0) (spot k log).calls ≡ 0 → length (of_caller door.caller (spot k log).calls) < HOLDS_MAX
   has_room k none = let r = h.room k in omega (arith, r, none)
 
-  pub noted : (a : Answer) → place names (name_of t (a.class.0, a.name.0)) ≡ Some a.key.0 → HasType log (door.caller, q.0) a.key.0 a.site → IsCalling t door q.0 names log key own held (answers ++ a ∷ [])
+  pub noted : (a : Answer) → place names (name_of t (a.class.0, a.name.0)) ≡ Some a.key.0 → HasType log (door.caller, q.0) a.key.0 a.site → IsCalling t door q.0 names asked log key own held (answers ++ a ∷ [])
   noted a named typed = record {
     legal = h.legal;
     room = h.room;
@@ -120,10 +121,12 @@ module _ (t : Table) (door : Fixed) (q : CallNo) (names : List Name) (log : List
     own_is = h.own_is;
     answered = true_last t names log (door.caller, q.0) answers a named typed h.answered;
     only = λ k one. ⊎_elim (λ e. inl e) (λ i. inr (among_more k answers a i)) (h.only k one);
+    asked_for = h.asked_for;
+    whole = h.whole;
   }
 
-  pub named_on : (known : List Name) → IsPrefix names known → IsCalling t door q.0 known log key own held answers
-  named_on known longer = record {
+  pub named_on : (known more : List Name) → IsPrefix names known → IsPrefix asked more → IsCalling t door q.0 known more log key own held answers
+  named_on known more longer grows = record {
     legal = h.legal;
     room = h.room;
     holds = h.holds;
@@ -131,11 +134,13 @@ module _ (t : Table) (door : Fixed) (q : CallNo) (names : List Name) (log : List
     own_is = h.own_is;
     answered = true_named t names known log (door.caller, q.0) answers longer h.answered;
     only = h.only;
+    asked_for = λ k one. asked_on names known asked more k longer grows (h.asked_for k one);
+    whole = h.whole;
   }
 
   pub holding : (new : List Entry) (j : KeyId) (ty : Option TypeSite) (n : ℕ) (a : Answer) → Adds door.caller log new (Hold q j ty n) → IsLegal door.limit new → times (door.caller, q.0) (spot j.0 log).calls ≡ 0 → j.0 < NAMES_MAX
-      → a.key ≡ j → a.site ≡ ty → place names (name_of t (a.class.0, a.name.0)) ≡ Some a.key.0 → IsCalling t door q.0 names new key own (held ++ j ∷ []) (answers ++ a ∷ [])
-  holding new j ty n a adds legal none low same site named =
+      → IsAskedFor names asked j.0 → a.key ≡ j → a.site ≡ ty → place names (name_of t (a.class.0, a.name.0)) ≡ Some a.key.0 → IsCalling t door q.0 names asked new key own (held ++ j ∷ []) (answers ++ a ∷ [])
+  holding new j ty n a adds legal none low asks same site named =
       let c = door.caller in
       let rest : List Entry = adds.0 ++ entry c (Hold q j ty n) ∷ [] in
       let is : log ++ rest ≡ new = sym (append_assoc log adds.0 (entry c (Hold q j ty n) ∷ [])) ∙ sym adds.1 in
@@ -151,6 +156,8 @@ module _ (t : Table) (door : Fixed) (q : CallNo) (names : List Name) (log : List
         answered = true_last t names new (c, q.0) answers a named (subst (λ (s : Option TypeSite). HasType new (c, q.0) a.key.0 s) (sym site) (subst (λ (k : KeyId). HasType new (c, q.0) k.0 ty) (sym same) typed))
             (subst (λ l. AreTrue t names l (c, q.0) answers) is (answers_stay t names names door.limit c q.0 log rest answers ([], append-nil names) legal2 keeps h.answered));
         only = λ k one. ⊎_elim (λ e. inr (among_last k answers a (e ∙ ap (λ (k : KeyId). k.0) (sym same)))) (λ o. ⊎_elim (λ e. inl e) (λ i. inr (among_more k answers a i)) (h.only k o)) (held_then c q j ty n log new k adds one);
+        asked_for = λ k one. ⊎_elim (λ e. subst (IsAskedFor names asked) (sym e) asks) (λ o. h.asked_for k o) (held_then c q j ty n log new k adds one);
+        whole = whole_hold c q j ty n log new adds;
       }
     where
       found_type : (new : List Entry) (j : KeyId) (ty : Option TypeSite) (n : ℕ) → Adds door.caller log new (Hold q j ty n) → IsLegal door.limit new → ty ≡ (spot j.0 new).ty

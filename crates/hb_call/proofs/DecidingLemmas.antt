@@ -34,30 +34,30 @@ use Rattle.hb_tables.specs.Standing.{Stand, standing}
 use Rattle.hb_tables.specs.Rows.{site_in, declared_in, body_at, HoldsName, IsDecided}
 use Rattle.hb_tables.specs.Verdicts.{takes, subject, verdict_of, looks_of}
 use Rattle.hb_tables.proofs.AddingLemmas.{own_stays}
-use Rattle.hb_tables.proofs.DeskLemmas.{learns_acts, learns_prefix}
+use Rattle.hb_tables.proofs.DeskLemmas.{learns_acts}
 use Rattle.hb_tables.proofs.VerdictLemmas.{enters_of, ill_of}
 use Rattle.hb_call.specs.declared.answers.Answer.{Answer}
 use Rattle.hb_call.specs.Held.{HasRoom, stands}
-use Rattle.hb_call.specs.Calling.{HasType, AreTrue, IsAmong, IsCalling, Given, IsAlike, answers_of}
+use Rattle.hb_call.specs.Calling.{HasType, AreTrue, IsAmong, IsCalling, answers_of}
 use Rattle.hb_call.specs.Deciding.{IsVerdictBy, told, type_declared}
 use Rattle.hb_call.proofs.RoomLemmas.{room_learns}
+use Rattle.hb_call.proofs.GrowthLemmas.{whole_same}
 use Rattle.hb_call.proofs.StayLemmas.{held_once, type_stays, answers_stay, keeps_none}
-use Rattle.hb_call.proofs.BegunLemmas.{begun_learns}
 
 -- the body and the type of a subject
-record Parts (t : Table) (class : ℕ) (b : Option Body) (m : Option MethodTy) (s : Subject) : Type 0 where
-  body : Body
-  declared : MethodTy
-  has_body : b ≡ Some body
-  has_type : m ≡ Some declared
-  is : subject t class body declared ≡ s
+pub record Parts (t : Table) (class : ℕ) (b : Option Body) (m : Option MethodTy) (s : Subject) : Type 0 where
+  pub body : Body
+  pub declared : MethodTy
+  pub has_body : b ≡ Some body
+  pub has_type : m ≡ Some declared
+  pub is : subject t class body declared ≡ s
 
-parts : (t : Table) (class : ℕ) (b : Option Body) (m : Option MethodTy) (s : Subject) → subject_from t class b m ≡ Some s → Parts t class b m s
+pub parts : (t : Table) (class : ℕ) (b : Option Body) (m : Option MethodTy) (s : Subject) → subject_from t class b m ≡ Some s → Parts t class b m s
 parts t class None m s e = absurd (none-some s e)
 parts t class (Some b) None s e = absurd (none-some s e)
 parts t class (Some b) (Some m) s e = record { body = b; declared = m; has_body = refl; has_type = refl; is = cc }
 
-fits_type : (m : MethodTy) (n : MethodTy) (kinds : List Ty) (o : Option MethodTy) → o ≡ Some m → o ≡ Some n → takes m kinds ≡ true → takes n kinds ≡ true
+pub fits_type : (m : MethodTy) (n : MethodTy) (kinds : List Ty) (o : Option MethodTy) → o ≡ Some m → o ≡ Some n → takes m kinds ≡ true → takes n kinds ≡ true
 fits_type m n kinds o a b h = let e : m ≡ n = cc in subst (λ (x : MethodTy). takes x kinds ≡ true) e h
 
 pub found_by : (t : Table) (class : ℕ) (site : BodySite) (declared : TypeSite) (m : MethodTy) (kinds : List Ty) (answers : List Asked) (refused : Option Refusal) (found : Checked) → sites_of t declared.0 ≡ Some m → takes m kinds ≡ true → Answers t class site.0 declared.0 answers refused (Ok found) → IsVerdictBy t class (Some site) (Some declared) kinds answers (told found)
@@ -83,24 +83,24 @@ found_by t class site declared m kinds answers refused (checked.Bad ill) typed f
     )
 
 -- the tables behind a list agree with answers that are true there
-agrees : (t : Table) (names : List Name) (log : List Entry) (x : ℕ × ℕ) (answers : List Answer) → AreTrue t names log x answers → Agrees (answers_of answers) (declared_in t names log)
+pub agrees : (t : Table) (names : List Name) (log : List Entry) (x : ℕ × ℕ) (answers : List Answer) → AreTrue t names log x answers → Agrees (answers_of answers) (declared_in t names log)
 agrees t names log x [] h = tt
 agrees t names log x (a ∷ answers) h = (ap (site_in log) h.0 ∙ ap (option_map (λ (s : TypeSite). s.0)) (sym h.1.1), agrees t names log x answers h.2)
 
-held_in : (t : Table) (names : List Name) (log : List Entry) (x : ℕ × ℕ) (answers : List Answer) → AreTrue t names log x answers → (p : Name) → Contains (map (name_of t) (map key_asked (answers_of answers))) p → HoldsName names log x p
+pub held_in : (t : Table) (names : List Name) (log : List Entry) (x : ℕ × ℕ) (answers : List Answer) → AreTrue t names log x answers → (p : Name) → Contains (map (name_of t) (map key_asked (answers_of answers))) p → HoldsName names log x p
 held_in t names log x [] h p i = absurd (let low = i.1 in omega (arith, low))
 held_in t names log x (a ∷ answers) h p (zero, low, e) = (a.key.0, ap (place names) (sym e) ∙ h.0, h.1.0)
 held_in t names log x (a ∷ answers) h p (suc i, low, e) = held_in t names log x answers h.2 p (i, omega (arith, low), e)
 
-found_in : (t : Table) (names : List Name) (log : List Entry) (x : ℕ × ℕ) (answers : List Answer) (k : ℕ) → AreTrue t names log x answers → IsAmong k answers → (p : Name) × Contains (map (name_of t) (map key_asked (answers_of answers))) p × (place names p ≡ Some k)
+pub found_in : (t : Table) (names : List Name) (log : List Entry) (x : ℕ × ℕ) (answers : List Answer) (k : ℕ) → AreTrue t names log x answers → IsAmong k answers → (p : Name) × Contains (map (name_of t) (map key_asked (answers_of answers))) p × (place names p ≡ Some k)
 found_in t names log x [] k h i = absurd i
 found_in t names log x (a ∷ answers) k h (inl e) = (name_of t (a.class.0, a.name.0), (0, omega arith, refl), h.0 ∙ ap Some (sym e))
 found_in t names log x (a ∷ answers) k h (inr i) =
     let r = found_in t names log x answers k h.2 i in let c = r.1 in
     (r.0, (suc c.0, (let low = c.1 in omega (arith, low)), c.2), r.2)
 
-module _ (t : Table) (door : Fixed) (q : CallNo) (names : List Name) (log : List Entry) (key : KeyId) (own : Option TypeSite) (held : List KeyId) (answers : List Answer) (h : IsCalling t door q.0 names log key own held answers) where
-  pub learned : (new : List Entry) → Learns door.caller log new → IsLegal door.limit new → IsCalling t door q.0 names new key own held answers
+module _ (t : Table) (door : Fixed) (q : CallNo) (names asked : List Name) (log : List Entry) (key : KeyId) (own : Option TypeSite) (held : List KeyId) (answers : List Answer) (h : IsCalling t door q.0 names asked log key own held answers) where
+  pub learned : (new : List Entry) → Learns door.caller log new → IsLegal door.limit new → IsCalling t door q.0 names asked new key own held answers
   learned new learns legal =
       let c = door.caller in let between = learns.0 in
       let is : log ++ between ≡ new = sym learns.1 in
@@ -115,6 +115,8 @@ module _ (t : Table) (door : Fixed) (q : CallNo) (names : List Name) (log : List
         own_is = subst (λ l. HasType l (c, q.0) key.0 own) is (type_stays door.limit c q.0 log between legal2 key.0 (keeps key.0) own h.own_is);
         answered = subst (λ l. AreTrue t names l (c, q.0) answers) is (answers_stay t names names door.limit c q.0 log between answers ([], append-nil names) legal2 keeps h.answered);
         only = λ k one. h.only k (sym (own_stays k c q.0 log between learns.2) ∙ ap (λ l. times (c, q.0) (spot k l).calls) is ∙ one);
+        whole = whole_same c q.0 log new (learns_acts c log new learns) h.whole;
+        asked_for = λ k one. h.asked_for k (sym (own_stays k c q.0 log between learns.2) ∙ ap (λ l. times (c, q.0) (spot k l).calls) is ∙ one);
       }
 
   -- the call is decided as its row says
@@ -144,9 +146,3 @@ module _ (t : Table) (door : Fixed) (q : CallNo) (names : List Name) (log : List
       found_it class bytes named j (inr i) =
           let r = found_in t names log (door.caller, q.0) answers j h.answered i in let c = r.1 in
           (r.0, (suc c.0, (let low = c.1 in omega (arith, low)), c.2), r.2)
-
-pub alike_learns : (g : Given) (door : Fixed) (names : List Name) (old new : List Entry) → door ≡ g.door → Learns g.door.caller old new → IsAlike g (record g { door = door }) names names old new
-alike_learns g door names old new is learns = record {
-  same = ap (λ (d : Fixed). record g { door = d }) (sym is);
-  goes = record { named = ([], append-nil names); kept = learns_prefix g.door.caller old new learns; begun = λ kinds start b. begun_learns g.door.caller g.q g.key kinds start old new learns b };
-}

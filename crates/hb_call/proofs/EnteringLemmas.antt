@@ -1,13 +1,13 @@
 -- A call that is entered or refused, from what the finish of its decision comes to.
-use Rattle.std.proofs.Common.{◌≡◌, ℕ, List, [], ◌++◌, Some, refl, sym, ap, ◌∙◌, subst, append_assoc}
-use Rattle.std.specs.Prelude.{Option, Result, Ok, Err, slice_get}
+use Rattle.std.proofs.Common.{◌≡◌, ℕ, inr, List, [], ◌∷◌, ◌++◌, map, Bool, cond, eqb, eq-eqb, Some, None, refl, sym, ap, ◌∙◌, subst, append_assoc}
+use Rattle.std.specs.Prelude.{Option, Result, Ok, Err, slice_get, ◌&&◌}
 use Rattle.std.specs.Option.{unwrap_or}
 use Rattle.hb_tree.specs.Canon.{bytes_at}
 use mathlib.Core.List.{IsPrefix}
 use Rattle.hb_types.specs.declared.ids.CallNo.{CallNo}
 use Rattle.hb_types.specs.declared.ids.KeyId.{KeyId}
 use Rattle.hb_types.specs.declared.ids.BodySite.{BodySite}
-use Rattle.hb_names.specs.Names.{Name, place}
+use Rattle.hb_names.specs.Names.{IsFull, Name, place}
 use Rattle.hb_tables.specs.declared.entry.Entry.{Entry}
 use Rattle.hb_tables.specs.declared.entry.Verdict.{Verdict}
 use Rattle.hb_tables.specs.declared.entry.Verdict.TheVariants as verdict
@@ -15,12 +15,26 @@ use Rattle.hb_tables.specs.Answers.{Fixed}
 use Rattle.hb_tables.specs.Frames.{acts}
 use Rattle.hb_tables.specs.Rows.{kinds_of}
 use Rattle.hb_call.specs.declared.frame.CallFail.{CallFail}
+use Rattle.hb_call.specs.declared.frame.CallFail.TheVariants as fail
+use Rattle.hb_tables.specs.declared.entry.ArgKinds.{ArgKinds}
+use Rattle.hb_tables.specs.declared.entry.Act.{Act}
+use Rattle.hb_tables.specs.declared.entry.Act.TheVariants.{Free}
+use Rattle.hb_tables.specs.Standing.{Stand, all_but}
+use Rattle.hb_types.specs.declared.types.Ty.{Ty}
+use Rattle.hb_call.specs.Reading.{call_of, decision, freed, full_at, FullAt, Lost}
 use Rattle.hb_call.specs.declared.frame.Entered.{Entered}
 use Rattle.hb_call.specs.declared.frame.Entered.TheVariants as entered
-use Rattle.hb_call.specs.Held.{Holds, frees, stands}
-use Rattle.hb_call.specs.Calling.{Begun, Given}
+use Rattle.hb_call.specs.Held.{HasCall, Holds, frees, stands}
+use Rattle.hb_call.specs.Calling.{Begun, Given, Grew, Moment, Went}
+use Rattle.hb_call.specs.Alike.{went_on}
+use Rattle.hb_call.specs.GrowthLaws.{grown_on, prefix_itself, with_rules}
+use Rattle.hb_call.proofs.StepLemmas.{at, went_frees}
+use Rattle.hb_call.specs.Growth.{EachNew}
+use Rattle.hb_call.specs.Rules.{FitsRules}
+use Rattle.hb_call.proofs.GrowthLemmas.{grows_frees}
+use Rattle.hb_tables.specs.History.{IsLegal}
 use Rattle.hb_call.specs.Deciding.{Decided}
-use Rattle.hb_call.specs.Entering.{Asks, IsDecidedOf, Enters, IsFinished, GaveBack, Finished}
+use Rattle.hb_call.specs.Entering.{Asks, IsDecidedOf, Enters, IsFinished, GaveBack, GaveUp, Finished, IsFullFor}
 use Rattle.hb_call.proofs.HeldLemmas.{none_stand}
 
 -- what is given back of a call that is the same as before
@@ -36,8 +50,62 @@ gave_back g h names old mid new v site held same decided holds kept freed =
       none = none_stand h.door.caller h.q held mid new holds freed;
     })
 
+freed_all : (q : CallNo) (hs : List Stand) (keys : List KeyId) (l : List Act) → map (λ (h : Stand). h.key) hs ≡ map (λ (k : KeyId). k.0) keys → freed q.0 hs (frees q keys ++ l) ≡ Some l
+freed_all q [] [] l e = refl
+freed_all q [] (key ∷ keys) l e = absurd (cc e)
+freed_all q (h ∷ hs) [] l e = absurd (cc e)
+freed_all q (h ∷ hs) (key ∷ keys) l e =
+    let head : key.0 ≡ h.key = cc e in let rest : map (λ (h : Stand). h.key) hs ≡ map (λ (k : KeyId). k.0) keys = cc e in
+    let one = eq-eqb q.0 q.0 refl in let two = eq-eqb key.0 h.key head in
+    ap (λ (b : Bool). cond (b && eqb key.0 h.key) (freed q.0 hs (frees q keys ++ l)) None) one ∙ ap (λ (b : Bool). cond b (freed q.0 hs (frees q keys ++ l)) None) two ∙ freed_all q hs keys l rest
+
+-- the Frees of all that a call holds, its own key first, tell that it is Full
+full_read : (q : CallNo) (key : KeyId) (kinds : List Ty) (hs : List Stand) (others : List KeyId) (l : List Act) → map (λ (h : Stand). h.key) hs ≡ map (λ (k : KeyId). k.0) (key ∷ others) → decision q.0 key.0 kinds hs (frees q (key ∷ others) ++ l) ≡ FullAt l
+full_read q key kinds hs others l e =
+    let one = eq-eqb q.0 q.0 refl in let two = eq-eqb key.0 key.0 refl in let acts = frees q others ++ l in
+    ap (λ (b : Bool). cond b (cond (eqb key.0 key.0) (full_at (freed q.0 hs (Free q key ∷ acts))) (decision q.0 key.0 kinds (all_but key.0 hs) acts)) Lost) one
+    ∙ ap (λ (b : Bool). cond b (full_at (freed q.0 hs (Free q key ∷ acts))) (decision q.0 key.0 kinds (all_but key.0 hs) acts)) two
+    ∙ ap full_at (freed_all q hs (key ∷ others) l e)
+
+pub gave_up : (g h : Given) (names : List Name) (old mid new : List Entry) (held others : List KeyId) → g ≡ h → held ≡ h.key ∷ others → (name : Name) × IsFull names name → Holds h.door.caller h.q.0 held mid → acts h.door.caller new ≡ acts h.door.caller mid ++ frees h.q held
+    → ((kinds : List Ty) (start : List Entry) → Begun g.door.caller g.q g.key kinds start old → Begun g.door.caller g.q g.key kinds start mid) → GaveUp g names old new
+gave_up g h names old mid new held others same first full holds back begun =
+    subst (λ (x : Given). ((kinds : List Ty) (start : List Entry) → Begun x.door.caller x.q x.key kinds start old → Begun x.door.caller x.q x.key kinds start mid) → GaveUp x names old new) (sym same) given begun
+  where
+    given : ((kinds : List Ty) (start : List Entry) → Begun h.door.caller h.q h.key kinds start old → Begun h.door.caller h.q h.key kinds start mid) → GaveUp h names old new
+    given on = record {
+      full = full;
+      reads = λ start b. let m = on (kinds_of h.args) start b in (
+        m.made ++ frees h.q held,
+        back ∙ ap (λ w. w ++ frees h.q held) m.grows ∙ append_assoc (acts h.door.caller start) m.made (frees h.q held),
+        λ l. ap (call_of h.q.0 h.key.0 (kinds_of h.args)) (append_assoc m.made (frees h.q held) l) ∙ m.reads (frees h.q held ++ l)
+            ∙ ap (λ (ks : List KeyId). decision h.q.0 h.key.0 (kinds_of h.args) (stands h.door.caller h.q.0 mid) (frees h.q ks ++ l)) first
+            ∙ full_read h.q h.key (kinds_of h.args) (stands h.door.caller h.q.0 mid) others l (holds.keys ∙ ap (map (λ (k : KeyId). k.0)) first),
+      );
+      none = none_stand h.door.caller h.q held mid new holds back;
+    }
+
+pub called_of : (g : Given) (names : List Name) (old new : List Entry) (v : Verdict) (site : Option BodySite) → Decided g names old new v site → HasCall g.door.caller g.q.0 new
+called_of g names old new v site d = record { before = d.before; call = g.q; key = g.key; site = site; args = g.args; verdict = v; after = []; is = d.is; number = refl }
+
+-- what a call comes to that gave back what it held
+module _ (g h : Given) (same : g ≡ h) (was : Moment) (known asked : List Name) (mid new : List Entry) (held : List KeyId) (kept : IsPrefix mid new) (back : acts h.door.caller new ≡ acts h.door.caller mid ++ frees h.q held) where
+  pub back_went : (IsLegal h.door.limit mid → IsLegal h.door.limit new) → Went g was (at known asked mid) → Went g was (at known asked new)
+  back_went legal went = went_on g was (at known asked mid) (at known asked new) went (subst (λ (x : Given). Went x (at known asked mid) (at known asked new)) (sym same) (went_frees h known asked mid new held kept back legal))
+
+  pub back_grew : EachNew (FitsRules h.t known h.door.caller) h.door.caller mid new → Grew g was (at known asked mid) → Grew g was (at known asked new)
+  back_grew rules grew =
+      let last : Grew g (at known asked mid) (at known asked new) = subst (λ (x : Given). Grew x (at known asked mid) (at known asked new)) (sym same) (with_rules h.t h.door.caller known asked asked mid new (grows_frees h.door.caller known asked h.q held mid new kept back) rules) in
+      grown_on g.t g.door.caller known known was.asked asked asked was.log mid new grew last (prefix_itself known)
+
 pub none_left : (g h : Given) (mid new : List Entry) (held : List KeyId) → g ≡ h → Holds h.door.caller h.q.0 held mid → acts h.door.caller new ≡ acts h.door.caller mid ++ frees h.q held → stands g.door.caller g.q.0 new ≡ []
 none_left g h mid new held same holds freed = ap (λ (x : Given). stands x.door.caller x.q.0 new) same ∙ none_stand h.door.caller h.q held mid new holds freed
+
+-- a call that was not decided
+pub stopped : (g h : Given) (names : List Name) (old mid new : List Entry) (held others : List KeyId) (cause : CallFail) → g ≡ h → held ≡ h.key ∷ others → IsFullFor names cause → Holds h.door.caller h.q.0 held mid → acts h.door.caller new ≡ acts h.door.caller mid ++ frees h.q held
+    → ((kinds : List Ty) (start : List Entry) → Begun g.door.caller g.q g.key kinds start old → Begun g.door.caller g.q g.key kinds start mid) → Finished g names old new (Err cause)
+stopped g h names old mid new held others fail.Full same first full holds back begun = gave_up g h names old mid new held others same first full holds back begun
+stopped g h names old mid new held others fail.NoMemory same first full holds back begun = none_left g h mid new held same holds back
 
 module _ (a : Asks) (g : Given) (program : g.t ≡ a.t) (door : g.door ≡ a.door) (q : g.q ≡ a.q) (class : g.class ≡ a.class) (args : g.args ≡ a.args) (names : List Name) (named : place names (a.class.0, a.bytes) ≡ Some g.key.0) (old first : List Entry) (begun : Begun g.door.caller g.q g.key (kinds_of g.args) old first) where
   decided_of : (mid : List Entry) (key : KeyId) (v : Verdict) (site : Option BodySite) (held : List KeyId) → key ≡ g.key → IsFinished g names first mid v site held → IsDecidedOf a names old mid key v site held
@@ -71,7 +139,18 @@ module _ (a : Asks) (g : Given) (program : g.t ≡ a.t) (door : g.door ≡ a.doo
     freed = ap (λ (d : Fixed). acts d.caller new) (sym door) ∙ h.freed ∙ ap (λ (d : Fixed). acts d.caller h.mid ++ frees g.q h.held) door ∙ ap (λ (p : CallNo). acts a.door.caller h.mid ++ frees p h.held) q;
     none = none_of new h.none;
   }
-  enters new (Err cause) h = none_of new h
+  enters new (Err fail.Full) h =
+      let r = h.reads old begun in
+      inr (record {
+        key = g.key;
+        named = named;
+        full = h.full;
+        made = r.0;
+        grows = ap (λ (d : Fixed). acts d.caller new) (sym door) ∙ r.1 ∙ ap (λ (d : Fixed). acts d.caller old ++ r.0) door;
+        reads = λ l. ap (λ (p : CallNo). call_of p.0 g.key.0 (kinds_of a.args) (r.0 ++ l)) (sym q) ∙ ap (λ (x : ArgKinds). call_of g.q.0 g.key.0 (kinds_of x) (r.0 ++ l)) (sym args) ∙ r.2 l;
+        none = none_of new h.none;
+      })
+  enters new (Err fail.NoMemory) h = none_of new h
 
 pub names_on : (a b c : List Name) → IsPrefix a b → IsPrefix b c → IsPrefix a c
 names_on a b c p q = (p.0 ++ q.0, sym (append_assoc a p.0 q.0) ∙ ap (λ w. w ++ q.0) p.1 ∙ q.1)

@@ -28,7 +28,7 @@ may_drop keys i d hs h = subst (λ (l : List KeyId). MayFree l hs) (drop-cons ke
 pub free_stands : (c : ℕ) (q : CallNo) (key : KeyId) (old new : List Entry) → Adds c old new (Free q key) → stands c q.0 new ≡ all_but key.0 (stands c q.0 old)
 free_stands c q key old new h = adds_stand c q.0 old new (Free q key) h ∙ ap (λ b. cond b (all_but key.0 (stands c q.0 old)) (stands c q.0 old)) (eq-eqb q.0 q.0 refl)
 
-count_head : (k : ℕ) (hs : List Stand) (h : Stand) → k ≡ h.key → count_of k (h ∷ hs) ≡ 1 + count_of k hs
+pub count_head : (k : ℕ) (hs : List Stand) (h : Stand) → k ≡ h.key → count_of k (h ∷ hs) ≡ 1 + count_of k hs
 count_head k hs h is = ap (λ b. cond b 1 0 + count_of k hs) (eq-eqb k h.key is)
 
 count_append : (k : ℕ) (xs ys : List Stand) → count_of k (xs ++ ys) ≡ count_of k xs + count_of k ys
@@ -48,17 +48,17 @@ all_but_append : (k : ℕ) (xs ys : List Stand) → all_but k (xs ++ ys) ≡ all
 all_but_append k [] ys = refl
 all_but_append k (x ∷ xs) ys = let r = all_but_append k xs ys in elim (eqb k x.key) as (λ b. cond b (all_but k (xs ++ ys)) (x ∷ all_but k (xs ++ ys)) ≡ cond b (all_but k xs) (x ∷ all_but k xs) ++ all_but k ys) [ true ↦ r | false ↦ ap (λ l. x ∷ l) r ]
 
-head_same : (h : Stand) (hs : List Stand) (key : KeyId) (keys : List KeyId) → map (λ (h : Stand). h.key) (h ∷ hs) ≡ map (λ (k : KeyId). k.0) (key ∷ keys) → (key.0 ≡ h.key) × (map (λ (h : Stand). h.key) hs ≡ map (λ (k : KeyId). k.0) keys)
+pub head_same : (h : Stand) (hs : List Stand) (key : KeyId) (keys : List KeyId) → map (λ (h : Stand). h.key) (h ∷ hs) ≡ map (λ (k : KeyId). k.0) (key ∷ keys) → (key.0 ≡ h.key) × (map (λ (h : Stand). h.key) hs ≡ map (λ (k : KeyId). k.0) keys)
 head_same h hs key keys e = (cc, cc)
 
-head_gone : (kept hs : List Stand) (h : Stand) (k : ℕ) → k ≡ h.key → count_of k (kept ++ h ∷ hs) ≤ 1 → all_but k (kept ++ h ∷ hs) ≡ kept ++ hs
+pub head_gone : (kept hs : List Stand) (h : Stand) (k : ℕ) → k ≡ h.key → count_of k (kept ++ h ∷ hs) ≤ 1 → all_but k (kept ++ h ∷ hs) ≡ kept ++ hs
 head_gone kept hs h k is once =
     let a = count_append k kept (h ∷ hs) in let b = count_head k hs h is in
     let one : count_of k kept ≡ 0 = omega (arith, a, b, once) in let two : count_of k hs ≡ 0 = omega (arith, a, b, once) in
     let e = eq-eqb k h.key is in
     all_but_append k kept (h ∷ hs) ∙ ap (λ l. l ++ all_but k (h ∷ hs)) (all_but_none k kept one) ∙ ap (λ b. kept ++ cond b (all_but k hs) (h ∷ all_but k hs)) e ∙ ap (λ l. kept ++ l) (all_but_none k hs two)
 
-less : (k : ℕ) (kept hs : List Stand) (h : Stand) → count_of k (kept ++ h ∷ hs) ≤ 1 → count_of k (kept ++ hs) ≤ 1
+pub less : (k : ℕ) (kept hs : List Stand) (h : Stand) → count_of k (kept ++ h ∷ hs) ≤ 1 → count_of k (kept ++ hs) ≤ 1
 less k kept hs h once = let a = count_append k kept (h ∷ hs) in let b = count_append k kept hs in omega (arith, a, b, once)
 
 -- the keys behind others that stay may be freed, and then these stay

@@ -1,11 +1,16 @@
 pub mod HeldLemmas
 pub mod RoomLemmas
+pub mod GrowthLemmas
 pub mod StayLemmas
 pub mod CallingLemmas
 pub mod BegunLemmas
+pub mod StepLemmas
 pub mod RetreatLemmas
 pub mod TakesLemmas
 pub mod DecidingLemmas
+pub mod LookingLemmas
+pub mod RunsLemmas
+pub mod FullLemmas
 pub mod DecideLemmas
 pub mod StartLemmas
 pub mod EnteringLemmas

@@ -1,7 +1,7 @@
 -- A call that gives back all but its own key.
 use Rattle.std.proofs.Common.{◌≡◌, ℕ, ◌+◌, ◌-◌, ◌<◌, ◌≤◌, inl, Bool, true, false, cond, eqb, List, [], ◌∷◌, ◌++◌, length, map, take, drop, sym, refl, ap, ◌∙◌, subst, arith, eq-eqb, nat_eq}
 use Rattle.std.proofs.lemmas.Bool.{eqb-true}
-use Rattle.std.specs.Prelude.{Option, ◌&&◌}
+use Rattle.std.specs.Prelude.{Option}
 use Rattle.std.specs.List.{AllByRecursion}
 use mathlib.Core.List.{IsPrefix}
 use Rattle.hb_types.specs.declared.ids.KeyId.{KeyId}
@@ -18,10 +18,13 @@ use Rattle.hb_tables.specs.Standing.{Stand, standing, standing_from, count_of}
 use Rattle.hb_tables.proofs.StandingLemmas.{standing_append, held_stands}
 use Rattle.hb_call.specs.declared.answers.Answer.{Answer}
 use Rattle.hb_call.specs.Held.{HasRoom, MayFree, frees, stands}
-use Rattle.hb_call.specs.Calling.{HasType, IsCalling}
+use Rattle.hb_call.specs.Calling.{HasType, IsAskedFor, IsCalling, MayRetreat}
+use Rattle.hb_call.specs.Growth.{EachNew}
+use Rattle.hb_call.specs.Rules.{FitsRules}
+use Rattle.hb_call.proofs.RunsLemmas.{retreat_fits}
 use Rattle.hb_call.proofs.HeldLemmas.{may_free, freed_stands}
 use Rattle.hb_call.proofs.StayLemmas.{held_once, type_stays, acts_rest}
-use Rattle.hb_call.proofs.BegunLemmas.{AreOthers}
+use Rattle.hb_call.proofs.BegunLemmas.{AreOthers, keeps_others}
 
 -- the own key is held first
 pub record First (key : KeyId) (others : List KeyId) (hs : List Stand) : Type 0 where
@@ -54,15 +57,7 @@ none_other k (h ∷ hs) (key ∷ others) e none = go (eqb k h.key) refl (none_ot
             by false x = x
             by true x = absurd (let u = eq-eqb k b (sym (eqb-true a k x) ∙ s) in cc)
 
-keeps_others : (q : CallNo) (k : ℕ) (others : List KeyId) → AreOthers k others → KeepsHold q.0 k (frees q others)
-keeps_others q k [] h = tt
-keeps_others q k (key ∷ others) h = (by (eqb k key.0) refl, keeps_others q k others h.1)
-  where
-    by : (x : Bool) → eqb k key.0 ≡ x → (eqb q.0 q.0 && eqb k key.0) ≡ false
-    by true x = absurd (let u = eq-eqb key.0 k (sym (eqb-true k key.0 x)) in let v = h.0 in cc)
-    by false x = let e = eq-eqb q.0 q.0 refl in rw (e, x) refl
-
-module _ (t : Table) (door : Fixed) (q : CallNo) (names : List Name) (log : List Entry) (key : KeyId) (own : Option TypeSite) (held : List KeyId) (answers : List Answer) (h : IsCalling t door q.0 names log key own held answers) where
+module _ (t : Table) (door : Fixed) (q : CallNo) (names asked : List Name) (log : List Entry) (key : KeyId) (own : Option TypeSite) (held : List KeyId) (answers : List Answer) (h : IsCalling t door q.0 names asked log key own held answers) where
   begins : First key h.first.0 (stands door.caller q.0 log)
   begins = first_of key h.first.0 (stands door.caller q.0 log) (h.holds.keys ∙ ap (map (λ (k : KeyId). k.0)) h.first.1)
 
@@ -83,7 +78,7 @@ module _ (t : Table) (door : Fixed) (q : CallNo) (names : List Name) (log : List
       ap (standing q.0) e ∙ standing_append q.0 [] (acts door.caller log) (frees q h.first.0) ∙ ap (λ hs. standing_from q.0 hs (frees q h.first.0)) begins.is
       ∙ freed_stands q (begins.h ∷ []) begins.rest h.first.0 begins.keys once
 
-  pub retreated : (new : List Entry) → IsPrefix log new → acts door.caller new ≡ acts door.caller log ++ frees q h.first.0 → IsLegal door.limit new → HasRoom new door.caller q.0 → IsCalling t door q.0 names new key own (key ∷ []) []
+  pub retreated : (new : List Entry) → IsPrefix log new → acts door.caller new ≡ acts door.caller log ++ frees q h.first.0 → IsLegal door.limit new → HasRoom new door.caller q.0 → IsCalling t door q.0 names asked new key own (key ∷ []) []
   retreated new kept e legal room =
       let c = door.caller in
       let keeps : KeepsHold q.0 key.0 (acts c kept.0) = subst (KeepsHold q.0 key.0) (sym (acts_rest c log kept.0 new (frees q h.first.0) kept.1 e)) (keeps_others q key.0 h.first.0 are_others) in
@@ -95,6 +90,8 @@ module _ (t : Table) (door : Fixed) (q : CallNo) (names : List Name) (log : List
         own_is = subst (λ l. HasType l (c, q.0) key.0 own) kept.1 (type_stays door.limit c q.0 log kept.0 (subst (IsLegal door.limit) (sym kept.1) legal) key.0 keeps own h.own_is);
         answered = tt;
         only = λ k one. inl (alone k (sym (held_stands c q.0 k new ∙ ap (count_of k) (after new e)) ∙ one));
+        asked_for = λ k one. subst (IsAskedFor names asked) (sym (alone k (sym (held_stands c q.0 k new ∙ ap (count_of k) (after new e)) ∙ one))) (h.asked_for key.0 h.own_is.0);
+        whole = λ gave. (begins.h, after new e);
       }
     where
       low_own : key.0 < NAMES_MAX
@@ -106,6 +103,9 @@ module _ (t : Table) (door : Fixed) (q : CallNo) (names : List Name) (log : List
           by : (x : Bool) → eqb k begins.h.key ≡ x → k ≡ key.0
           by true x = eqb-true k begins.h.key x ∙ sym begins.key_is
           by false x = absurd (let e = ap (λ b. cond b 1 0 + count_of k []) (sym x) ∙ one in omega (arith, e))
+
+  pub retreat_rules : (new : List Entry) → MayRetreat door.caller q key log → acts door.caller new ≡ acts door.caller log ++ frees q h.first.0 → EachNew (FitsRules t names door.caller) door.caller log new
+  retreat_rules new may is = retreat_fits t names door.caller q key h.first.0 log new begins.h begins.rest may begins.is begins.keys once are_others is
 
 take-whole : (l : List KeyId) → take (length l) l ≡ l
 take-whole [] = refl

@@ -1,5 +1,5 @@
 -- A call that is being decided: what it answers while its body is checked, and what is kept.
-use Rattle.std.specs.Prelude.{◌≡◌, ℕ, ◌≤◌, ◌⊎◌, List, [], ◌∷◌, ◌++◌, length, map, Option, Some, None, nat_eq, if◌then◌else◌}
+use Rattle.std.specs.Prelude.{◌≡◌, ℕ, ◌+◌, ◌<◌, ◌≤◌, ◌⊎◌, false, List, [], ◌∷◌, ◌++◌, length, map, slice_get, Option, Some, None, nat_eq, if◌then◌else◌}
 use mathlib.Core.List.{IsPrefix}
 use Rattle.hb_types.specs.declared.types.TheConstants.{PARAMS_MAX}
 use Rattle.hb_types.specs.declared.types.Ty.{Ty}
@@ -9,18 +9,25 @@ use Rattle.hb_types.specs.declared.ids.KeyId.{KeyId}
 use Rattle.hb_types.specs.declared.ids.TypeSite.{TypeSite}
 use Rattle.hb_tree.specs.Table.{Table}
 use Rattle.hb_check.specs.Asked.{Asked, Refusal, asked, refusal}
-use Rattle.hb_names.specs.Names.{Name, place}
+use Rattle.hb_names.specs.Names.{Name, Differ, IsFull, place}
+use Rattle.hb_names.specs.declared.names.TheConstants.{NAMES_MAX}
+use Rattle.hb_check.specs.declared.lookup.LookFail.TheVariants as look
 use Rattle.hb_tables.specs.declared.entry.Entry.{Entry}
 use Rattle.hb_tables.specs.declared.entry.Act.{Act}
+use Rattle.hb_tables.specs.declared.entry.Act.TheVariants.{Hold}
 use Rattle.hb_tables.specs.declared.entry.ArgKinds.{ArgKinds}
-use Rattle.hb_tables.specs.Answers.{Fixed}
-use Rattle.hb_tables.specs.Frames.{acts}
-use Rattle.hb_tables.specs.History.{spot, times, IsLegal}
+use Rattle.hb_tables.specs.Answers.{Fixed, IsLookAt}
+use Rattle.hb_tables.specs.declared.desk.Look.{Look}
+use Rattle.hb_types.specs.declared.ids.BodySite.{BodySite}
+use Rattle.hb_tables.specs.Frames.{acts, KeepsHold}
+use Rattle.hb_tables.specs.History.{spot, times, Adds, IsLegal}
 use Rattle.hb_tables.specs.Names.{name_of}
 use Rattle.hb_call.specs.declared.answers.Answer.{Answer}
 use Rattle.hb_call.specs.declared.answers.Refused.{Refused}
 use Rattle.hb_call.specs.Reading.{decision, call_of}
 use Rattle.hb_call.specs.Held.{HasRoom, Holds, stands}
+use Rattle.hb_call.specs.Growth.{EachNew, Grown, Grows}
+use Rattle.hb_call.specs.Rules.{Began, FitsRules, HadBody, IsWhole, runs}
 
 abbrev pub answers_of : List Answer → List Asked
 answers_of answers = map (λ a. asked a.class a.name a.site) answers
@@ -48,8 +55,15 @@ abbrev pub AreTrue : Table → List Name → List Entry → ℕ × ℕ → List 
 AreTrue t names log x [] = Unit {0}
 AreTrue t names log x (a ∷ answers) = (place names (name_of t (a.class.0, a.name.0)) ≡ Some a.key.0) × HasType log x a.key.0 a.site × AreTrue t names log x answers
 
--- What is kept while the call q of the caller c is decided: it holds its own key and those that it answered for, and no others.
-pub record IsCalling (t : Table) (door : Fixed) (q : ℕ) (names : List Name) (log : List Entry) (key : KeyId) (own : Option TypeSite) (held : List KeyId) (answers : List Answer) : Type 0 where
+-- the name of the key was asked for
+pub record IsAskedFor (names asked : List Name) (k : ℕ) : Type 0 where
+  pub name : Name
+  pub named : slice_get names k ≡ Some name
+  pub at : ℕ
+  pub there : place asked name ≡ Some at
+
+-- What is kept while the call q of the caller c is decided: it holds its own key and those that it answered for, and no others. The names of these were asked for.
+pub record IsCalling (t : Table) (door : Fixed) (q : ℕ) (names asked : List Name) (log : List Entry) (key : KeyId) (own : Option TypeSite) (held : List KeyId) (answers : List Answer) : Type 0 where
   pub legal : IsLegal door.limit log
   pub room : HasRoom log door.caller q
   pub holds : Holds door.caller q held log
@@ -57,6 +71,17 @@ pub record IsCalling (t : Table) (door : Fixed) (q : ℕ) (names : List Name) (l
   pub own_is : HasType log (door.caller, q) key.0 own
   pub answered : AreTrue t names log (door.caller, q) answers
   pub only : (k : ℕ) → times (door.caller, q) (spot k log).calls ≡ 1 → (k ≡ key.0) ⊎ IsAmong k answers
+  pub asked_for : (k : ℕ) → times (door.caller, q) (spot k log).calls ≡ 1 → IsAskedFor names asked k
+  pub whole : IsWhole door.caller q log
+
+-- The call held the key before, or holds it from here on. This is its type.
+abbrev pub IsHeldFrom : ℕ → CallNo → KeyId → Option TypeSite → List Entry → List Entry → Type 0
+IsHeldFrom c q key ty old new = ((new ≡ old) × HasType old (c, q.0) key.0 ty) ⊎ ((n : ℕ) × Adds c old new (Hold q key ty n))
+
+-- where the list of names was full for a method, it is so, and the method's name is none of them
+abbrev pub IsRefusedRightly : Table → List Name → Option Refused → Type 0
+IsRefusedRightly t names None = Unit {0}
+IsRefusedRightly t names (Some r) = r.cause ≡ look.Full → IsFull names (name_of t (r.class.0, r.name.0))
 
 -- As far as it goes, the acts of the call q of this key that were made since the start are those of a decision, whatever comes behind.
 pub record Begun (c : ℕ) (q : CallNo) (key : KeyId) (kinds : List Ty) (start log : List Entry) : Type 0 where
@@ -79,15 +104,81 @@ pub record Given : Type 0 where
 abbrev pub IsSame : Given → Given → Type 0
 IsSame g h = g ≡ h
 
--- names and entries went on, and with them the decision of the call
-pub record Goes (g : Given) (names known : List Name) (old new : List Entry) : Type 0 where
-  pub named : IsPrefix names known
-  pub kept : IsPrefix old new
-  pub begun : (kinds : List Ty) (start : List Entry) → Begun g.door.caller g.q g.key kinds start old → Begun g.door.caller g.q g.key kinds start new
+-- the names that are known, those that were asked for, and the entries at one time
+pub record Moment : Type 0 where
+  pub known : List Name
+  pub asked : List Name
+  pub log : List Entry
 
-pub record IsAlike (g h : Given) (names known : List Name) (old new : List Entry) : Type 0 where
+-- Names and entries went on, and no other call of the caller had a part in it.
+pub record Went (g : Given) (was is : Moment) : Type 0 where
+  pub named : IsPrefix was.known is.known
+  pub few : length was.known ≤ NAMES_MAX → length is.known ≤ NAMES_MAX
+  pub differ : Differ was.known → Differ is.known
+  pub kept : IsPrefix was.log is.log
+  pub legal : IsLegal g.door.limit was.log → IsLegal g.door.limit is.log
+  pub others : (p : ℕ) → (p ≡ g.q.0 → ⊥) → stands g.door.caller p is.log ≡ stands g.door.caller p was.log
+
+-- what came fits the rules, and the names asked for are those of it
+abbrev pub Grew : Given → Moment → Moment → Type 0
+Grew g was is = Grown g.t g.door.caller is.known was.asked is.asked was.log is.log
+
+-- each act of the caller that came fits the rules
+abbrev pub FitsSince : Given → Moment → Moment → Type 0
+FitsSince g was is = EachNew (FitsRules g.t is.known g.door.caller) g.door.caller was.log is.log
+
+-- names and entries went on, and with them the decision of the call
+pub record Goes (g : Given) (was is : Moment) : Type 0 where
+  pub went : Went g was is
+  pub grew : Grows g.door.caller is.known was.asked is.asked was.log is.log
+  pub keeps : KeepsHold g.q.0 g.key.0 grew.made
+  pub begun : (kinds : List Ty) (start : List Entry) → Begun g.door.caller g.q g.key kinds start was.log → Begun g.door.caller g.q g.key kinds start is.log
+
+pub record IsAlike (g h : Given) (was is : Moment) : Type 0 where
   pub same : g ≡ h
-  pub goes : Goes g names known old new
+  pub goes : Goes g was is
+
+-- The act is the Hold of an answer's key, behind entries where the answers before it are true.
+pub record HoldsAnswer (t : Table) (names : List Name) (c : ℕ) (q : CallNo) (answers : List Answer) (log : List Entry) (a : Act) : Type 0 where
+  pub first : List Answer
+  pub answer : Answer
+  pub rest : List Answer
+  pub among : answers ≡ first ++ answer ∷ rest
+  pub told : AreTrue t names log (c, q.0) first
+  pub named : place names (name_of t (answer.class.0, answer.name.0)) ≡ Some answer.key.0
+  pub ty : Option TypeSite
+  pub changes : ℕ
+  pub is : a ≡ Hold q answer.key ty changes
+  pub whole : IsWhole c q.0 log
+
+-- answers were added, and what came are Holds of their keys
+pub record IsAsking (g : Given) (was is : Moment) (old new : List Answer) : Type 0 where
+  pub more : List Answer
+  pub grows : new ≡ old ++ more
+  pub holds : EachNew (HoldsAnswer g.t is.known g.door.caller g.q new) g.door.caller was.log is.log
+
+-- The call began and has this definition from a place behind that.
+pub record HasBody (c : ℕ) (q : CallNo) (key : KeyId) (site : Option BodySite) (log : List Entry) : Type 0 where
+  pub start : List Entry
+  pub began : Began c q key start log
+  pub had : HadBody key.0 start log site
+
+-- The call began and looked at its definition behind that.
+pub record HasLooked (c : ℕ) (q : CallNo) (key : KeyId) (seen : Look) (log : List Entry) : Type 0 where
+  pub start : List Entry
+  pub began : Began c q key start log
+  pub at : List Entry
+  pub from : IsPrefix start at
+  pub to : IsPrefix at log
+  pub is : IsLookAt key.0 seen at
+  -- the call retreated at most as often as the definition was changed up to the look
+  pub few : runs q.0 false (acts c began.since) + (spot key.0 start).redefs ≤ seen.changes
+
+-- The call began and may retreat once more.
+pub record MayRetreat (c : ℕ) (q : CallNo) (key : KeyId) (log : List Entry) : Type 0 where
+  pub start : List Entry
+  pub began : Began c q key start log
+  pub few : runs q.0 false (acts c began.since) + (spot key.0 start).redefs < (spot key.0 log).redefs
 
 -- so many kinds as may be, some of which count
 abbrev pub IsArgKinds : ArgKinds → Type 0

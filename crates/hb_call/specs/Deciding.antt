@@ -42,10 +42,15 @@ IsVerdictBy t class site own kinds answers v =
     → (as_fresh v ≡ verdict_of t (types_in (sites_of t) declared) class (body_at t site) (type_declared t own) kinds)
     × (looks_of t (types_in (sites_of t) declared) class (body_at t site) (type_declared t own) kinds ≡ map key_asked answers)
 
+-- the verdict names no derivation that was kept
+abbrev pub IsFresh : Verdict → Type 0
+IsFresh v = as_fresh v ≡ v
+
 -- The last entry is the Call, which is decided as its row says. What the call read since the start is this decision.
 pub record Decided (g : Given) (names : List Name) (old new : List Entry) (v : Verdict) (site : Option BodySite) : Type 0 where
   pub before : List Entry
   pub is : new ≡ before ++ entry g.door.caller (Call g.q g.key site g.args v) ∷ []
+  pub fresh : IsFresh v
   pub row : IsDecided g.t names before (g.door.caller, g.q.0) g.key.0 site (kinds_of g.args) v
   pub reads : (start : List Entry) → Begun g.door.caller g.q g.key (kinds_of g.args) start old
       → (made : List Act) × (acts g.door.caller new ≡ acts g.door.caller start ++ made)

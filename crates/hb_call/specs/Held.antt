@@ -1,14 +1,17 @@
 -- What a call holds.
-use Rattle.std.specs.Prelude.{◌≡◌, ℕ, ◌+◌, ◌<◌, ◌≤◌, List, [], ◌∷◌, length, map}
+use Rattle.std.specs.Prelude.{◌≡◌, ℕ, ◌+◌, ◌<◌, ◌≤◌, List, [], ◌∷◌, ◌++◌, length, map, Option}
 use Rattle.std.specs.List.{AllByRecursion}
 use Rattle.hb_types.specs.declared.ids.CallNo.{CallNo}
 use Rattle.hb_types.specs.declared.ids.KeyId.{KeyId}
 use Rattle.hb_names.specs.declared.names.TheConstants.{NAMES_MAX}
 use Rattle.hb_tables.specs.declared.entry.Entry.{Entry}
 use Rattle.hb_tables.specs.declared.entry.Act.{Act}
-use Rattle.hb_tables.specs.declared.entry.Act.TheVariants.{Free}
+use Rattle.hb_tables.specs.declared.entry.Act.TheVariants.{Free, Call}
+use Rattle.hb_tables.specs.declared.entry.ArgKinds.{ArgKinds}
+use Rattle.hb_tables.specs.declared.entry.Verdict.{Verdict}
+use Rattle.hb_types.specs.declared.ids.BodySite.{BodySite}
 use Rattle.hb_tables.specs.declared.entry.TheConstants.{HOLDS_MAX}
-use Rattle.hb_tables.specs.History.{spot, times, of_caller}
+use Rattle.hb_tables.specs.History.{spot, times, of_caller, entry}
 use Rattle.hb_tables.specs.Frames.{acts}
 use Rattle.hb_tables.specs.Standing.{Stand, all_but, standing, count_of}
 
@@ -35,3 +38,15 @@ MayFree (key ∷ keys) hs = (key.0 < NAMES_MAX) × (count_of key.0 hs ≡ 1) × 
 -- There is room for one more call of the caller at each key that the call does not hold.
 abbrev pub HasRoom : List Entry → ℕ → ℕ → Type 0
 HasRoom log c q = (k : ℕ) → length (of_caller c (spot k log).calls) + 1 ≤ HOLDS_MAX + times (c, q) (spot k log).calls
+
+-- the caller has a Call of this number
+pub record HasCall (c q : ℕ) (log : List Entry) : Type 0 where
+  pub before : List Entry
+  pub call : CallNo
+  pub key : KeyId
+  pub site : Option BodySite
+  pub args : ArgKinds
+  pub verdict : Verdict
+  pub after : List Entry
+  pub is : log ≡ before ++ entry c (Call call key site args verdict) ∷ after
+  pub number : call.0 ≡ q

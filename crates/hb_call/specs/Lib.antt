@@ -5,3 +5,7 @@ pub mod Calling
 pub mod Deciding
 pub mod Alike
 pub mod Entering
+pub mod Rules
+pub mod Growth
+pub mod GrowthLaws
+pub mod Seen

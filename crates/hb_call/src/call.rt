@@ -1,21 +1,22 @@
 //! A call that is being decided.
 
-ghost use Rattle.std.specs.Prelude.{◌≡◌, ◌<◌, ℕ, List, [], ◌∷◌, ◌++◌, None, Some, IfOk, IfSome, OnErr};
-ghost use mathlib.Core.List.{IsPrefix};
+ghost use Rattle.std.specs.Prelude.{◌≡◌, ◌<◌, ℕ, List, [], ◌∷◌, ◌++◌, None, Some, IfErr, IfOk, IfSome, IsErrOf, OnErr, OnOk};
 ghost use Rattle.hb_types.specs.Types.{IsMethodTy};
 ghost use Rattle.hb_types.specs.declared.ids.ClassId.{ClassId};
 ghost use Rattle.hb_types.specs.declared.ids.NameId.{NameId};
 ghost use Rattle.hb_check.specs.Asked.{asked};
-ghost use Rattle.hb_names.specs.Names.{place};
-ghost use Rattle.hb_tables.specs.declared.entry.Entry.{Entry};
-ghost use Rattle.hb_tables.specs.Answers.{IsLookAt};
+ghost use Rattle.hb_names.specs.Names.{IsFull, place};
+ghost use Rattle.hb_tables.specs.History.{IsLegal};
 ghost use Rattle.hb_tables.specs.Names.{name_of};
 ghost use Rattle.hb_tables.specs.Rows.{kinds_of};
 ghost use Rattle.hb_tables.specs.Verdicts.{takes};
-ghost use Rattle.hb_call.specs.Held.{Holds};
-ghost use Rattle.hb_call.specs.Calling.{IsAlike, IsArgKinds, IsCalling, IsSame, answers_of};
-ghost use Rattle.hb_call.specs.Deciding.{Decided, IsVerdictBy, told};
-ghost use Rattle.hb_call.specs.Entering.{Finished};
+ghost use Rattle.hb_call.specs.Held.{Holds, frees};
+ghost use Rattle.hb_tables.specs.declared.entry.Entry.{Entry};
+ghost use Rattle.hb_tables.specs.Frames.{StaysLive, acts};
+ghost use Rattle.hb_call.specs.Calling.{FitsSince, Grew, HasBody, HasLooked, IsArgKinds, IsAskedFor, IsCalling, IsHeldFrom, IsRefusedRightly, IsSame, MayRetreat, Went, answers_of};
+ghost use Rattle.hb_call.specs.Deciding.{Decided, IsFresh, IsVerdictBy, told};
+ghost use Rattle.hb_call.specs.Entering.{Finished, IsFramed, IsFullFor, IsRightlyFor, IsTold};
+ghost use Rattle.hb_call.specs.Seen.{AsksOn, GoesOn, HasSpare, IsUnderWay, given_of, moment_of};
 
 use crate::answers::{Answer, Refused, found};
 use crate::frame::{CallFail, Entered, Frame, free_keys};
@@ -58,19 +59,23 @@ impl<D: Desk, N: Names> Call<'_, '_, '_, '_, D, N> {
         alloc: Global,
         first: Look,
     ) -> Result<(Verdict, Option<BodySite>), CallFail>
-        requires calling { IsCalling self.old.prog.now (D.fixed self.old.desk.now) self.old.q.0 (N.known self.old.names.now) (D.front self.old.desk.now) self.old.key self.old.own self.old.held.now.items self.old.answers.now.items }
+        requires calling { IsUnderWay D.fixed D.front N.known N.asked self.old }
         requires args { IsArgKinds self.old.args }
         requires fresh { (self.old.answers.now.items ≡ []) × (self.old.refused ≡ None) }
         requires named { (bytes : List ℕ) × (place (N.known self.old.names.now) (self.old.class.0, bytes) ≡ Some self.old.key.0) }
-        requires look { (before : List Entry) × IsPrefix before (D.front self.old.desk.now) × IsLookAt self.old.key.0 first before }
-        ensures same { IsSame (record { t = self.old.prog.now; door = D.fixed self.old.desk.now; q = self.old.q; key = self.old.key; own = self.old.own; class = self.old.class; args = self.old.args; desk = self.old.desk.ghost_name; names = self.old.names.ghost_name }) (record { t = self.new.prog.now; door = D.fixed self.new.desk.now; q = self.new.q; key = self.new.key; own = self.new.own; class = self.new.class; args = self.new.args; desk = self.new.desk.ghost_name; names = self.new.names.ghost_name }) }
+        requires looked { HasLooked (D.fixed self.old.desk.now).caller self.old.q self.old.key first (D.front self.old.desk.now) }
+        ensures same { IsSame (given_of D.fixed self.old) (given_of D.fixed self.new) }
         ensures desk { self.new.desk.ghost_name ≡ self.old.desk.ghost_name }
         ensures names { self.new.names.ghost_name ≡ self.old.names.ghost_name }
-        ensures named { IsPrefix (N.known self.old.names.now) (N.known self.new.names.now) }
-        ensures kept { IsPrefix (D.front self.old.desk.now) (D.front self.new.desk.now) }
-        ensures goes { OnErr result (IsAlike (record { t = self.old.prog.now; door = D.fixed self.old.desk.now; q = self.old.q; key = self.old.key; own = self.old.own; class = self.old.class; args = self.old.args; desk = self.old.desk.ghost_name; names = self.old.names.ghost_name }) (record { t = self.new.prog.now; door = D.fixed self.new.desk.now; q = self.new.q; key = self.new.key; own = self.new.own; class = self.new.class; args = self.new.args; desk = self.new.desk.ghost_name; names = self.new.names.ghost_name }) (N.known self.old.names.now) (N.known self.new.names.now) (D.front self.old.desk.now) (D.front self.new.desk.now)) }
+        ensures alike { N.alike self.old.names.now self.new.names.now }
+        ensures went { Went (given_of D.fixed self.old) (moment_of D.front N.known N.asked self.old) (moment_of D.front N.known N.asked self.new) }
+        ensures grew { Grew (given_of D.fixed self.old) (moment_of D.front N.known N.asked self.old) (moment_of D.front N.known N.asked self.new) }
+        ensures goes { OnErr result (GoesOn D.fixed D.front N.known N.asked self.old self.new) }
         ensures holds { Holds (D.fixed self.new.desk.now).caller self.new.q.0 self.new.held.now.items (D.front self.new.desk.now) }
-        ensures decided { IfOk result (λ r. Decided (record { t = self.new.prog.now; door = D.fixed self.new.desk.now; q = self.new.q; key = self.new.key; own = self.new.own; class = self.new.class; args = self.new.args; desk = self.new.desk.ghost_name; names = self.new.names.ghost_name }) (N.known self.new.names.now) (D.front self.old.desk.now) (D.front self.new.desk.now) r.0 r.1) }
+        ensures first { (others : List KeyId) × (self.new.held.now.items ≡ self.new.key ∷ others) }
+        ensures decided { IfOk result (λ r. Decided (given_of D.fixed self.new) (N.known self.new.names.now) (D.front self.old.desk.now) (D.front self.new.desk.now) r.0 r.1) }
+        ensures full { IfErr result (IsFullFor (N.known self.new.names.now)) }
+        ensures rightly { IfErr result (IsRightlyFor self.new.prog.now (N.known self.new.names.now) (D.fixed self.new.desk.now).caller self.new.q self.new.key (D.front self.new.desk.now)) }
     {
         let mut look = first;
         loop {
@@ -91,17 +96,19 @@ impl<D: Desk, N: Names> Call<'_, '_, '_, '_, D, N> {
 
     /// Decides the call, and frees what it holds where its body may not run.
     pub fn finish(&mut self, alloc: Global, first: Look) -> Result<Entered, CallFail>
-        requires calling { IsCalling self.old.prog.now (D.fixed self.old.desk.now) self.old.q.0 (N.known self.old.names.now) (D.front self.old.desk.now) self.old.key self.old.own self.old.held.now.items self.old.answers.now.items }
+        requires calling { IsUnderWay D.fixed D.front N.known N.asked self.old }
         requires args { IsArgKinds self.old.args }
         requires fresh { (self.old.answers.now.items ≡ []) × (self.old.refused ≡ None) }
         requires named { (bytes : List ℕ) × (place (N.known self.old.names.now) (self.old.class.0, bytes) ≡ Some self.old.key.0) }
-        requires look { (before : List Entry) × IsPrefix before (D.front self.old.desk.now) × IsLookAt self.old.key.0 first before }
+        requires looked { HasLooked (D.fixed self.old.desk.now).caller self.old.q self.old.key first (D.front self.old.desk.now) }
         ensures desk { self.new.desk.ghost_name ≡ self.old.desk.ghost_name }
         ensures names { self.new.names.ghost_name ≡ self.old.names.ghost_name }
-        ensures named { IsPrefix (N.known self.old.names.now) (N.known self.new.names.now) }
-        ensures kept { IsPrefix (D.front self.old.desk.now) (D.front self.new.desk.now) }
+        ensures alike { N.alike self.old.names.now self.new.names.now }
         ensures fixed { D.fixed self.new.desk.now ≡ D.fixed self.old.desk.now }
-        ensures finished { Finished (record { t = self.old.prog.now; door = D.fixed self.old.desk.now; q = self.old.q; key = self.old.key; own = self.old.own; class = self.old.class; args = self.old.args; desk = self.old.desk.ghost_name; names = self.old.names.ghost_name }) (N.known self.new.names.now) (D.front self.old.desk.now) (D.front self.new.desk.now) result }
+        ensures went { Went (given_of D.fixed self.old) (moment_of D.front N.known N.asked self.old) (moment_of D.front N.known N.asked self.new) }
+        ensures grew { IsTold result → Grew (given_of D.fixed self.old) (moment_of D.front N.known N.asked self.old) (moment_of D.front N.known N.asked self.new) }
+        ensures finished { Finished (given_of D.fixed self.old) (N.known self.new.names.now) (D.front self.old.desk.now) (D.front self.new.desk.now) result }
+        ensures framed { IfOk result (IsFramed (D.fixed self.old.desk.now).caller self.old.q (D.front self.new.desk.now)) }
     {
         let decided = self.decide(alloc, first);
         if let Ok((Verdict::Enter(way), Some(body))) = decided {
@@ -123,12 +130,20 @@ impl<D: Desk, N: Names> Call<'_, '_, '_, '_, D, N> {
 
     // The verdict on the call with this definition. The keys on which it rests are held.
     fn verdict(&mut self, alloc: Global, site: Option<BodySite>) -> Result<Verdict, CallFail>
-        requires calling { IsCalling self.old.prog.now (D.fixed self.old.desk.now) self.old.q.0 (N.known self.old.names.now) (D.front self.old.desk.now) self.old.key self.old.own self.old.held.now.items self.old.answers.now.items }
+        requires calling { IsUnderWay D.fixed D.front N.known N.asked self.old }
         requires args { IsArgKinds self.old.args }
         requires fresh { (self.old.answers.now.items ≡ []) × (self.old.refused ≡ None) }
-        ensures calling { IsCalling self.new.prog.now (D.fixed self.new.desk.now) self.new.q.0 (N.known self.new.names.now) (D.front self.new.desk.now) self.new.key self.new.own self.new.held.now.items self.new.answers.now.items }
-        ensures alike { IsAlike (record { t = self.old.prog.now; door = D.fixed self.old.desk.now; q = self.old.q; key = self.old.key; own = self.old.own; class = self.old.class; args = self.old.args; desk = self.old.desk.ghost_name; names = self.old.names.ghost_name }) (record { t = self.new.prog.now; door = D.fixed self.new.desk.now; q = self.new.q; key = self.new.key; own = self.new.own; class = self.new.class; args = self.new.args; desk = self.new.desk.ghost_name; names = self.new.names.ghost_name }) (N.known self.old.names.now) (N.known self.new.names.now) (D.front self.old.desk.now) (D.front self.new.desk.now) }
+        requires named { (bytes : List ℕ) × (place (N.known self.old.names.now) (self.old.class.0, bytes) ≡ Some self.old.key.0) }
+        requires defined { HasBody (D.fixed self.old.desk.now).caller self.old.q self.old.key site (D.front self.old.desk.now) }
+        ensures calling { IsUnderWay D.fixed D.front N.known N.asked self.new }
+        ensures alike { GoesOn D.fixed D.front N.known N.asked self.old self.new }
+        ensures names { N.alike self.old.names.now self.new.names.now }
         ensures verdict { IfOk result (IsVerdictBy self.new.prog.now self.new.class.0 site self.new.own (kinds_of self.new.args) (answers_of self.new.answers.now.items)) }
+        ensures fresh { IfOk result IsFresh }
+        ensures live { (rest : List Entry) × (D.front self.old.desk.now ++ rest ≡ D.front self.new.desk.now) × StaysLive self.old.q.0 (acts (D.fixed self.old.desk.now).caller rest) }
+        ensures rules { FitsSince (given_of D.fixed self.old) (moment_of D.front N.known N.asked self.old) (moment_of D.front N.known N.asked self.new) }
+        ensures full { IfErr result (IsFullFor (N.known self.new.names.now)) }
+        ensures rightly { IfErr result (IsRightlyFor self.new.prog.now (N.known self.new.names.now) (D.fixed self.new.desk.now).caller self.new.q self.new.key (D.front self.new.desk.now)) }
     {
         let Some(body) = site else {
             return Ok(Verdict::NoBody);
@@ -151,9 +166,13 @@ impl<D: Desk, N: Names> Call<'_, '_, '_, '_, D, N> {
 
     // Gives back all keys but the called method's own.
     fn retreat(&mut self)
-        requires calling { IsCalling self.old.prog.now (D.fixed self.old.desk.now) self.old.q.0 (N.known self.old.names.now) (D.front self.old.desk.now) self.old.key self.old.own self.old.held.now.items self.old.answers.now.items }
-        ensures calling { IsCalling self.new.prog.now (D.fixed self.new.desk.now) self.new.q.0 (N.known self.new.names.now) (D.front self.new.desk.now) self.new.key self.new.own self.new.held.now.items self.new.answers.now.items }
-        ensures alike { IsAlike (record { t = self.old.prog.now; door = D.fixed self.old.desk.now; q = self.old.q; key = self.old.key; own = self.old.own; class = self.old.class; args = self.old.args; desk = self.old.desk.ghost_name; names = self.old.names.ghost_name }) (record { t = self.new.prog.now; door = D.fixed self.new.desk.now; q = self.new.q; key = self.new.key; own = self.new.own; class = self.new.class; args = self.new.args; desk = self.new.desk.ghost_name; names = self.new.names.ghost_name }) (N.known self.old.names.now) (N.known self.new.names.now) (D.front self.old.desk.now) (D.front self.new.desk.now) }
+        requires calling { IsUnderWay D.fixed D.front N.known N.asked self.old }
+        requires may { MayRetreat (D.fixed self.old.desk.now).caller self.old.q self.old.key (D.front self.old.desk.now) }
+        ensures calling { IsUnderWay D.fixed D.front N.known N.asked self.new }
+        ensures alike { GoesOn D.fixed D.front N.known N.asked self.old self.new }
+        ensures names { self.new.names ≡ self.old.names }
+        ensures freed { (others : List KeyId) × (acts (D.fixed self.old.desk.now).caller (D.front self.new.desk.now) ≡ acts (D.fixed self.old.desk.now).caller (D.front self.old.desk.now) ++ frees self.old.q others) }
+        ensures rules { FitsSince (given_of D.fixed self.old) (moment_of D.front N.known N.asked self.old) (moment_of D.front N.known N.asked self.new) }
         ensures fresh { (self.new.answers.now.items ≡ []) × (self.new.refused ≡ None) }
     {
         free_keys(self.desk, self.q, &self.held[1..]);
@@ -169,16 +188,23 @@ impl<D: Desk, N: Names> Call<'_, '_, '_, '_, D, N> {
         class: ClassId,
         name: NameId,
     ) -> Result<Option<TypeSite>, LookFail>
-        requires calling { IsCalling self.old.prog.now (D.fixed self.old.desk.now) self.old.q.0 (N.known self.old.names.now) (D.front self.old.desk.now) self.old.key self.old.own self.old.held.now.items self.old.answers.now.items }
-        ensures calling { IsCalling self.new.prog.now (D.fixed self.new.desk.now) self.new.q.0 (N.known self.new.names.now) (D.front self.new.desk.now) self.new.key self.new.own self.new.held.now.items self.new.answers.now.items }
-        ensures alike { IsAlike (record { t = self.old.prog.now; door = D.fixed self.old.desk.now; q = self.old.q; key = self.old.key; own = self.old.own; class = self.old.class; args = self.old.args; desk = self.old.desk.ghost_name; names = self.old.names.ghost_name }) (record { t = self.new.prog.now; door = D.fixed self.new.desk.now; q = self.new.q; key = self.new.key; own = self.new.own; class = self.new.class; args = self.new.args; desk = self.new.desk.ghost_name; names = self.new.names.ghost_name }) (N.known self.old.names.now) (N.known self.new.names.now) (D.front self.old.desk.now) (D.front self.new.desk.now) }
+        requires calling { IsUnderWay D.fixed D.front N.known N.asked self.old }
+        ensures calling { IsUnderWay D.fixed D.front N.known N.asked self.new }
+        ensures alike { GoesOn D.fixed D.front N.known N.asked self.old self.new }
+        ensures names { N.alike self.old.names.now self.new.names.now }
+        ensures asks { AsksOn D.fixed D.front N.known N.asked self.old self.new }
         ensures below { IfOk result (λ site. IfSome site (λ s. s.0 < TYPES_MAX)) }
         ensures answer { IfOk result (λ site. answers_of self.new.answers.now.items ≡ answers_of self.old.answers.now.items ++ asked class name site ∷ []) }
         ensures none { OnErr result (self.new.answers.now.items ≡ self.old.answers.now.items) }
         ensures refused { self.new.refused ≡ self.old.refused }
+        ensures full { IsErrOf result LookFail.Full → IsFull (N.known self.new.names.now) (name_of self.old.prog.now (class.0, name.0)) }
     {
         // No body of a program calls a method by another name than the program's.
         if name.0 as usize >= self.prog.names() {
+            return Err(LookFail::NoMemory);
+        }
+        // There is room for the hold before the name is asked for, so that no name is asked for in vain.
+        if self.make_room(alloc).is_err() {
             return Err(LookFail::NoMemory);
         }
         let key = match self.names.key(alloc, class, self.prog.name(name)) {
@@ -186,32 +212,7 @@ impl<D: Desk, N: Names> Call<'_, '_, '_, '_, D, N> {
             Err(NameFail::Full) => return Err(LookFail::Full),
             Err(NameFail::NoMemory) => return Err(LookFail::NoMemory),
         };
-        match self.remember(alloc, class, name, key) {
-            Ok(site) => Ok(site),
-            Err(_) => Err(LookFail::NoMemory),
-        }
-    }
-
-    // The type of a method's key, which is noted as an answer.
-    fn remember(
-        &mut self,
-        alloc: Global,
-        class: ClassId,
-        name: NameId,
-        key: KeyId,
-    ) -> Result<Option<TypeSite>, AllocError>
-        requires calling { IsCalling self.old.prog.now (D.fixed self.old.desk.now) self.old.q.0 (N.known self.old.names.now) (D.front self.old.desk.now) self.old.key self.old.own self.old.held.now.items self.old.answers.now.items }
-        requires name { place (N.known self.old.names.now) (name_of self.old.prog.now (class.0, name.0)) ≡ Some key.0 }
-        requires below { key.0 < NAMES_MAX }
-        ensures calling { IsCalling self.new.prog.now (D.fixed self.new.desk.now) self.new.q.0 (N.known self.new.names.now) (D.front self.new.desk.now) self.new.key self.new.own self.new.held.now.items self.new.answers.now.items }
-        ensures alike { IsAlike (record { t = self.old.prog.now; door = D.fixed self.old.desk.now; q = self.old.q; key = self.old.key; own = self.old.own; class = self.old.class; args = self.old.args; desk = self.old.desk.ghost_name; names = self.old.names.ghost_name }) (record { t = self.new.prog.now; door = D.fixed self.new.desk.now; q = self.new.q; key = self.new.key; own = self.new.own; class = self.new.class; args = self.new.args; desk = self.new.desk.ghost_name; names = self.new.names.ghost_name }) (N.known self.old.names.now) (N.known self.new.names.now) (D.front self.old.desk.now) (D.front self.new.desk.now) }
-        ensures below { IfOk result (λ site. IfSome site (λ s. s.0 < TYPES_MAX)) }
-        ensures answer { IfOk result (λ site. answers_of self.new.answers.now.items ≡ answers_of self.old.answers.now.items ++ asked class name site ∷ []) }
-        ensures none { OnErr result (self.new.answers.now.items ≡ self.old.answers.now.items) }
-        ensures refused { self.new.refused ≡ self.old.refused }
-    {
-        self.answers.reserve(1)?;
-        let site = self.type_held(alloc, key)?;
+        let site = self.type_held(key);
         self.answers.push_reserved(Answer {
             class,
             name,
@@ -221,30 +222,47 @@ impl<D: Desk, N: Names> Call<'_, '_, '_, '_, D, N> {
         Ok(site)
     }
 
+    // Makes room for one more hold and its answer.
+    fn make_room(&mut self, alloc: Global) -> Result<(), AllocError>
+        requires calling { IsUnderWay D.fixed D.front N.known N.asked self.old }
+        ensures calling { IsUnderWay D.fixed D.front N.known N.asked self.new }
+        ensures alike { GoesOn D.fixed D.front N.known N.asked self.old self.new }
+        ensures front { D.front self.new.desk.now ≡ D.front self.old.desk.now }
+        ensures names { self.new.names ≡ self.old.names }
+        ensures answers { self.new.answers.now.items ≡ self.old.answers.now.items }
+        ensures refused { self.new.refused ≡ self.old.refused }
+        ensures room { OnOk result (HasSpare D.spare self.new) }
+    {
+        self.answers.reserve(1)?;
+        self.held.reserve(1)?;
+        self.desk.reserve(alloc, 2)
+    }
+
     // The type of a key that the call holds, or that it takes now.
-    fn type_held(&mut self, alloc: Global, key: KeyId) -> Result<Option<TypeSite>, AllocError>
-        requires calling { IsCalling self.old.prog.now (D.fixed self.old.desk.now) self.old.q.0 (N.known self.old.names.now) (D.front self.old.desk.now) self.old.key self.old.own self.old.held.now.items self.old.answers.now.items }
+    fn type_held(&mut self, key: KeyId) -> Option<TypeSite>
+        requires calling { IsUnderWay D.fixed D.front N.known N.asked self.old }
         requires below { key.0 < NAMES_MAX }
-        ensures calling { OnErr result (IsCalling self.new.prog.now (D.fixed self.new.desk.now) self.new.q.0 (N.known self.new.names.now) (D.front self.new.desk.now) self.new.key self.new.own self.new.held.now.items self.new.answers.now.items) }
-        ensures with_answer { IfOk result (λ site. (class : ClassId) (name : NameId) → place (N.known self.old.names.now) (name_of self.old.prog.now (class.0, name.0)) ≡ Some key.0
-            → IsCalling self.new.prog.now (D.fixed self.new.desk.now) self.new.q.0 (N.known self.new.names.now) (D.front self.new.desk.now) self.new.key self.new.own self.new.held.now.items (self.old.answers.now.items ++ record { class = class; name = name; key = key; site = site } ∷ [])) }
-        ensures alike { IsAlike (record { t = self.old.prog.now; door = D.fixed self.old.desk.now; q = self.old.q; key = self.old.key; own = self.old.own; class = self.old.class; args = self.old.args; desk = self.old.desk.ghost_name; names = self.old.names.ghost_name }) (record { t = self.new.prog.now; door = D.fixed self.new.desk.now; q = self.new.q; key = self.new.key; own = self.new.own; class = self.new.class; args = self.new.args; desk = self.new.desk.ghost_name; names = self.new.names.ghost_name }) (N.known self.old.names.now) (N.known self.new.names.now) (D.front self.old.desk.now) (D.front self.new.desk.now) }
-        ensures names { N.known self.new.names.now ≡ N.known self.old.names.now }
-        ensures below { IfOk result (λ site. IfSome site (λ s. s.0 < TYPES_MAX)) }
+        requires asked { IsAskedFor (N.known self.old.names.now) (N.asked self.old.names.now) key.0 }
+        requires room { HasSpare D.spare self.old }
+        ensures same { IsSame (given_of D.fixed self.old) (given_of D.fixed self.new) }
+        ensures finds { IsHeldFrom (D.fixed self.old.desk.now).caller self.old.q key result (D.front self.old.desk.now) (D.front self.new.desk.now) }
+        ensures calling { (class : ClassId) (name : NameId) → place (N.known self.old.names.now) (name_of self.old.prog.now (class.0, name.0)) ≡ Some key.0
+            → IsCalling self.old.prog.now (D.fixed self.old.desk.now) self.old.q.0 (N.known self.old.names.now) (N.asked self.old.names.now) (D.front self.new.desk.now) self.old.key self.old.own self.new.held.now.items (self.old.answers.now.items ++ record { class = class; name = name; key = key; site = result } ∷ []) }
+        ensures legal { IsLegal (D.fixed self.old.desk.now).limit (D.front self.new.desk.now) }
+        ensures below { IfSome result (λ s. s.0 < TYPES_MAX) }
+        ensures names { self.new.names ≡ self.old.names }
         ensures answers { self.new.answers ≡ self.old.answers }
         ensures refused { self.new.refused ≡ self.old.refused }
     {
         if key.0 == self.key.0 {
-            return Ok(self.own);
+            return self.own;
         }
         if let Some(site) = found(self.answers, key) {
-            return Ok(site);
+            return site;
         }
-        self.held.reserve(1)?;
-        self.desk.reserve(alloc, 2)?;
         let site = self.desk.hold(self.q, key).ty;
         self.held.push_reserved(key);
-        Ok(site)
+        site
     }
 }
 
@@ -274,8 +292,9 @@ fn takes(ty: &MethodTy, args: &ArgKinds) -> bool
 impl<D: Desk, N: Names> Lookup for Call<'_, '_, '_, '_, D, N> {
     ghost use Rattle.std.proofs.Common.{refl};
     ghost use Rattle.hb_tree.specs.declared.limits.TheConstants.{TYPES_MAX};
-    ghost use Rattle.hb_call.specs.Calling.{IsCalling, IsAlike, answers_of, refusal_of};
-    ghost use Rattle.hb_call.specs.Alike.{alike_itself, alike_on};
+    ghost use Rattle.hb_call.specs.Calling.{IsRefusedRightly, answers_of, refusal_of};
+    ghost use Rattle.hb_call.specs.Seen.{AsksOn, GoesOn, IsUnderWay, given_of, moment_of};
+    ghost use Rattle.hb_call.specs.Alike.{alike_itself, alike_on, asking_itself, asking_on};
 
     ghost answers = { λ s. answers_of s.answers.now.items };
 
@@ -283,15 +302,15 @@ impl<D: Desk, N: Names> Lookup for Call<'_, '_, '_, '_, D, N> {
 
     ghost bound = { λ s. TYPES_MAX };
 
-    ghost alike = { λ a b. IsAlike (record { t = a.prog.now; door = D.fixed a.desk.now; q = a.q; key = a.key; own = a.own; class = a.class; args = a.args; desk = a.desk.ghost_name; names = a.names.ghost_name }) (record { t = b.prog.now; door = D.fixed b.desk.now; q = b.q; key = b.key; own = b.own; class = b.class; args = b.args; desk = b.desk.ghost_name; names = b.names.ghost_name }) (N.known a.names.now) (N.known b.names.now) (D.front a.desk.now) (D.front b.desk.now) };
+    ghost alike = { λ a b. GoesOn D.fixed D.front N.known N.asked a b × N.alike a.names.now b.names.now × AsksOn D.fixed D.front N.known N.asked a b };
 
-    ghost alike_itself = { λ a. alike_itself (record { t = a.prog.now; door = D.fixed a.desk.now; q = a.q; key = a.key; own = a.own; class = a.class; args = a.args; desk = a.desk.ghost_name; names = a.names.ghost_name }) (N.known a.names.now) (D.front a.desk.now) };
+    ghost alike_itself = { λ a. (alike_itself (given_of D.fixed a) (moment_of D.front N.known N.asked a), N.alike_itself a.names.now, asking_itself (given_of D.fixed a) (moment_of D.front N.known N.asked a) a.answers.now.items) };
 
-    ghost alike_on = { λ a b c. alike_on (record { t = a.prog.now; door = D.fixed a.desk.now; q = a.q; key = a.key; own = a.own; class = a.class; args = a.args; desk = a.desk.ghost_name; names = a.names.ghost_name }) (record { t = b.prog.now; door = D.fixed b.desk.now; q = b.q; key = b.key; own = b.own; class = b.class; args = b.args; desk = b.desk.ghost_name; names = b.names.ghost_name }) (record { t = c.prog.now; door = D.fixed c.desk.now; q = c.q; key = c.key; own = c.own; class = c.class; args = c.args; desk = c.desk.ghost_name; names = c.names.ghost_name }) (N.known a.names.now) (N.known b.names.now) (N.known c.names.now) (D.front a.desk.now) (D.front b.desk.now) (D.front c.desk.now) };
+    ghost alike_on = { λ a b c p q. (alike_on (given_of D.fixed a) (given_of D.fixed b) (given_of D.fixed c) (moment_of D.front N.known N.asked a) (moment_of D.front N.known N.asked b) (moment_of D.front N.known N.asked c) p.0 q.0, N.alike_on a.names.now b.names.now c.names.now p.1 q.1, asking_on (given_of D.fixed a) (given_of D.fixed b) (moment_of D.front N.known N.asked a) (moment_of D.front N.known N.asked b) (moment_of D.front N.known N.asked c) a.answers.now.items b.answers.now.items c.answers.now.items p.0.same q.0.goes.went p.2 q.2) };
 
     ghost bound_stays = { λ a b e. refl };
 
-    ghost ready = { λ s. IsCalling s.prog.now (D.fixed s.desk.now) s.q.0 (N.known s.names.now) (D.front s.desk.now) s.key s.own s.held.now.items s.answers.now.items };
+    ghost ready = { λ s. IsUnderWay D.fixed D.front N.known N.asked s × IsRefusedRightly s.prog.now (N.known s.names.now) s.refused };
 
     fn type_of(
         &mut self,

@@ -1,15 +1,18 @@
 //! The entry into a call.
 
-ghost use Rattle.std.specs.Prelude.{◌≡◌, ◌<◌, [], length};
+ghost use Rattle.std.specs.Prelude.{◌≡◌, ℕ, ◌<◌, ◌≤◌, [], length, IfOk};
 ghost use mathlib.Core.List.{IsPrefix};
 ghost use Rattle.hb_tree.specs.Canon.{bytes_at};
+ghost use Rattle.hb_names.specs.Names.{Differ};
+ghost use Rattle.hb_tables.specs.History.{IsLegal};
 ghost use Rattle.hb_call.specs.Calling.{IsArgKinds};
-ghost use Rattle.hb_call.specs.Entering.{Enters};
+ghost use Rattle.hb_call.specs.Entering.{Enters, IsFramed, IsTold};
+ghost use Rattle.hb_call.specs.Growth.{Grown};
 ghost use Rattle.hb_call.specs.Held.{HasRoom, stands};
 
 use crate::call::Call;
 use crate::frame::{CallFail, Entered};
-use hb_names::Names;
+use hb_names::{NAMES_MAX, Names};
 use hb_tables::desk::Desk;
 use hb_tables::entry::ArgKinds;
 use hb_tree::program::Program;
@@ -32,14 +35,21 @@ pub fn enter<D: Desk, N: Names>(
     requires unused { stands (D.fixed desk.old).caller q.0 (D.front desk.old) ≡ [] }
     requires room { HasRoom (D.front desk.old) (D.fixed desk.old).caller q.0 }
     ensures entered { Enters (record { t = prog.now; door = D.fixed desk.old; q = q; class = class; bytes = bytes_at prog.now.names name.0; args = args }) (N.known names.new) (D.front desk.old) (D.front desk.new) result }
+    ensures framed { IfOk result (IsFramed (D.fixed desk.old).caller q (D.front desk.new)) }
     ensures kept { IsPrefix (D.front desk.old) (D.front desk.new) }
+    ensures legal { IsLegal (D.fixed desk.old).limit (D.front desk.old) → IsLegal (D.fixed desk.old).limit (D.front desk.new) }
     ensures named { IsPrefix (N.known names.old) (N.known names.new) }
+    ensures few { length (N.known names.old) ≤ NAMES_MAX → length (N.known names.new) ≤ NAMES_MAX }
+    ensures names_differ { Differ (N.known names.old) → Differ (N.known names.new) }
+    ensures alike { N.alike names.old names.new }
     ensures fixed { D.fixed desk.new ≡ D.fixed desk.old }
+    ensures grown { IsTold result → Grown prog.now (D.fixed desk.old).caller (N.known names.new) (N.asked names.old) (N.asked names.new) (D.front desk.old) (D.front desk.new) }
+    ensures others { (p : ℕ) → (p ≡ q.0 → ⊥) → stands (D.fixed desk.old).caller p (D.front desk.new) ≡ stands (D.fixed desk.old).caller p (D.front desk.old) }
 {
-    let key = names.key(alloc, class, prog.name(name))?;
-    let mut held = Vec::new(alloc);
-    held.push(key)?;
+    let mut held = Vec::with_capacity(alloc, 1)?;
     desk.reserve(alloc, 2)?;
+    let key = names.key(alloc, class, prog.name(name))?;
+    held.push_reserved(key);
     let own = desk.hold(q, key).ty;
     let look = desk.look(key);
     let mut answers = Vec::new(alloc);

@@ -1,10 +1,13 @@
 //! Frames of calls, and what becomes of a call.
 
-ghost use Rattle.std.specs.Prelude.{◌≡◌, [], ◌++◌};
+ghost use Rattle.std.specs.Prelude.{◌≡◌, ℕ, List, [], ◌++◌};
 ghost use mathlib.Core.List.{IsPrefix};
 ghost use Rattle.hb_tables.specs.Frames.{acts};
 ghost use Rattle.hb_tables.specs.History.{IsLegal};
-ghost use Rattle.hb_call.specs.Held.{HasRoom, Holds, MayFree, frees, stands};
+ghost use Rattle.hb_tree.specs.Table.{Table};
+ghost use Rattle.hb_names.specs.Names.{Name};
+ghost use Rattle.hb_call.specs.Growth.{Grown};
+ghost use Rattle.hb_call.specs.Held.{HasCall, HasRoom, Holds, MayFree, frees, stands};
 
 use hb_check::lookup::LookFail;
 use hb_names::NameFail;
@@ -97,6 +100,9 @@ pub fn leave<D: Desk>(frame: Frame, desk: &mut D)
     ensures acts { acts (D.fixed desk.old).caller (D.front desk.new) ≡ acts (D.fixed desk.old).caller (D.front desk.old) ++ frees frame.q frame.held.items }
     ensures none { stands (D.fixed desk.old).caller frame.q.0 (D.front desk.new) ≡ [] }
     ensures kept { IsPrefix (D.front desk.old) (D.front desk.new) }
+    ensures legal { IsLegal (D.fixed desk.old).limit (D.front desk.old) → IsLegal (D.fixed desk.old).limit (D.front desk.new) }
+    ensures others { (p : ℕ) → (p ≡ frame.q.0 → ⊥) → stands (D.fixed desk.old).caller p (D.front desk.new) ≡ stands (D.fixed desk.old).caller p (D.front desk.old) }
+    ensures grown { (t : Table) (names asked : List Name) → HasCall (D.fixed desk.old).caller frame.q.0 (D.front desk.old) → Grown t (D.fixed desk.old).caller names asked asked (D.front desk.old) (D.front desk.new) }
     ensures fixed { D.fixed desk.new ≡ D.fixed desk.old }
 {
     free_keys(desk, frame.q, &frame.held);
