@@ -22,7 +22,7 @@ use Rattle.hb_eval.specs.Steps.{Starts, Moves, Keeps, IsFine, onto, need_of, for
 use Rattle.hb_eval.proofs.FuelLemmas.{loop_step, leaves_expr, leaves_tree}
 
 -- the tree at a place, and those behind it
-from_place : (p : ℕ → Tree) (is : List NodeId) (at : ℕ) (d : NodeId) → at < length is → trees_from at (forest_at p is) ≡ Trees (p (get_or is at d).0) (trees_from (suc at) (forest_at p is))
+pub from_place : (p : ℕ → Tree) (is : List NodeId) (at : ℕ) (d : NodeId) → at < length is → trees_from at (forest_at p is) ≡ Trees (p (get_or is at d).0) (trees_from (suc at) (forest_at p is))
 from_place p [] at d h = absurd (omega arith)
 from_place p (i ∷ is) zero d h = ap (Trees (p i.0)) (none_dropped (forest_at p is))
   where
@@ -32,7 +32,7 @@ from_place p (i ∷ is) zero d h = ap (Trees (p i.0)) (none_dropped (forest_at p
 from_place p (i ∷ is) (suc at) d h = from_place p is at d (omega arith)
 
 -- none are behind the last
-from_end : (p : ℕ → Tree) (is : List NodeId) (at : ℕ) → length is ≤ at → trees_from at (forest_at p is) ≡ NoTree
+pub from_end : (p : ℕ → Tree) (is : List NodeId) (at : ℕ) → length is ≤ at → trees_from at (forest_at p is) ≡ NoTree
 from_end p [] zero h = refl
 from_end p [] (suc at) h = refl
 from_end p (i ∷ is) zero h = absurd (omega arith)

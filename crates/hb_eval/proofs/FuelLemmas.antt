@@ -108,7 +108,7 @@ leaves_reads : (n id : ℕ) (m : Act → Option (Result Value Stop)) (s : St) �
 unfolding reads
 leaves_reads n id m s h = leaves_next n id m s s.journal h
 
-leaves_keyed : (n id : ℕ) (names : List Name) (o : Option ℕ) (s : St) (go : ℕ → Answer) → ((key : ℕ) → LeavesBelow n (go key)) → LeavesBelow n (with_key names id o s go)
+pub leaves_keyed : (n id : ℕ) (names : List Name) (o : Option ℕ) (s : St) (go : ℕ → Answer) → ((key : ℕ) → LeavesBelow n (go key)) → LeavesBelow n (with_key names id o s go)
 leaves_keyed n id names None s go k = leaves_if n (nat_eq (length names) NAMES_MAX) _ _ tt tt
 leaves_keyed n id names (Some key) s go k = k key
 

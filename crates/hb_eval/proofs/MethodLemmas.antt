@@ -30,6 +30,7 @@ given known c was now id name key asked v old new move found adds after mv =
     rw (after, mv) (record {
       more = adds.act ∷ [];
       grows = adds.grows;
+      apart = (adds.apart, tt);
       same = λ w prefix few ks fs read journal.
           let s : St = st_of old read (adds.act ∷ journal) in
           ap (resume w ks (reverse old.operands.items) fs)
@@ -44,6 +45,7 @@ stopped known c was now id name key asked e old new move found adds after mv =
     rw (after, mv) (record {
       more = adds.act ∷ [];
       grows = adds.grows;
+      apart = (adds.apart, tt);
       same = λ w prefix few ks fs read journal.
           let s : St = st_of old read (adds.act ∷ journal) in
           ap (resume w ks (reverse old.operands.items) fs)
@@ -56,7 +58,7 @@ no_more [] h = refl
 no_more (n ∷ more) h = absurd (omega arith)
 
 -- a full list of names goes on no further
-whole : (known names : List Name) → IsPrefix known names → length known ≡ NAMES_MAX → length names ≤ NAMES_MAX → names ≡ known
+pub whole : (known names : List Name) → IsPrefix known names → length known ≡ NAMES_MAX → length names ≤ NAMES_MAX → names ≡ known
 whole known names p full few =
     let none : p.0 ≡ [] = no_more p.0 (omega (arith, full, few, ap length p.1, length-append known p.0)) in
     sym p.1 ∙ ap (λ l. known ++ l) none ∙ append-nil known
@@ -68,6 +70,7 @@ full known c was now id name asked old new move is none after mv =
     rw (after, mv) (record {
       more = [];
       grows = none ∙ sym (append-nil (acts c was));
+      apart = tt;
       same = λ w prefix few ks fs read journal.
           let s : St = st_of old read journal in
           ap (λ names. resume w ks (reverse old.operands.items) fs (keyed names id.0 name s (λ key. reads (asked key) id.0 s))) (whole known w.names prefix is.0 few)

@@ -40,6 +40,7 @@ defined_acts c old new key site adds = record {
   act = act.Define key site;
   grows = added_act c old new (act.Define key site) adds;
   means = rw (same_number key.0, same_number site.0) refl;
+  apart = refl;
 }
 
 pub worn_def_acts : (c : ℕ) (old new : List Entry) (key : KeyId) (site : BodySite) → DefAdds c old new key site defined.Worn
@@ -48,6 +49,7 @@ worn_def_acts c old new key site adds = record {
   act = act.WornDef key;
   grows = added_act c old new (act.WornDef key) adds;
   means = rw (same_number key.0) refl;
+  apart = refl;
 }
 
 pub typed_acts : (asks : Bool) (c : ℕ) (old new : List Entry) (key : KeyId) (site : TypeSite) → TypeAdds c old new key site typed.Done
@@ -56,6 +58,7 @@ typed_acts asks c old new key site adds = record {
   act = act.Retype key site;
   grows = added_act c old new (act.Retype key site) adds;
   means = rw (same_number key.0, same_number site.0) refl;
+  apart = refl;
 }
 
 pub busy_acts : (asks : Bool) (pins c : ℕ) (old new : List Entry) (key : KeyId) (site : TypeSite) → TypeAdds c old new key site (typed.Busy pins)
@@ -64,6 +67,7 @@ busy_acts asks pins c old new key site adds = record {
   act = act.Busy key pins;
   grows = added_act c old new (act.Busy key pins) adds;
   means = rw (same_number key.0) refl;
+  apart = refl;
 }
 
 pub worn_type_acts : (asks : Bool) (c : ℕ) (old new : List Entry) (key : KeyId) (site : TypeSite) → TypeAdds c old new key site typed.Worn
@@ -72,6 +76,7 @@ worn_type_acts asks c old new key site adds = record {
   act = act.WornType key;
   grows = added_act c old new (act.WornType key) adds;
   means = rw (same_number key.0) refl;
+  apart = refl;
 }
 
 -- reading an act that is asked for gives what it means

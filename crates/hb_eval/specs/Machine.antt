@@ -1,7 +1,7 @@
 -- What is left to do, as a function on answers.
 --
 -- Contracts see each stack with its last first, and a live frame as what it does with the answer of its body.
-use Rattle.std.specs.Prelude.{ℕ, zero, suc, ◌-◌, List, [], ◌∷◌, ◌++◌, length, take, drop, reverse, Bool, true, false}
+use Rattle.std.specs.Prelude.{ℕ, zero, suc, ◌+◌, ◌-◌, List, [], ◌∷◌, ◌++◌, length, take, drop, reverse, Bool, true, false}
 use Rattle.hb_tree.specs.declared.node.Op.{Op}
 use Rattle.hb_tree.specs.Table.{Table}
 use Rattle.hb_tree.specs.TreeAt.{tree_at}
@@ -115,7 +115,7 @@ st_of x read journal = record {
   self = x.class;
   fuel = x.fuel;
   begun = x.begun;
-  next = x.next.0;
+  next = x.made + 1;
   output = x.output.items;
   read = read;
   journal = journal;

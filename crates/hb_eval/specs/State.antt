@@ -56,6 +56,11 @@ abbrev pub bind : Bindings → ℕ → Value → Bindings
 bind [] x v = (record { 0 = x }, v) ∷ []
 bind (b ∷ bs) x v = if nat_eq b.0.0 x then (record { 0 = x }, v) ∷ bs else b ∷ bind bs x v
 
+-- each act with the number of beginnings
+abbrev pub tagged : ℕ → List Act → List (ℕ × Act)
+tagged n [] = []
+tagged n (a ∷ more) = (n, a) ∷ tagged n more
+
 -- an act is read
 abbrev pub read_act : Act → List Act → St → St
 read_act e rest s = record s { read = s.read ++ (s.begun, e) ∷ []; journal = rest }

@@ -1,5 +1,5 @@
 -- What a step of the machine comes to.
-use Rattle.std.specs.Prelude.{◌≡◌, ℕ, suc, ◌+◌, ◌<◌, ◌≤◌, List, ◌∷◌, length, take, reverse, Bool, false, Option, Some, None, IfSome}
+use Rattle.std.specs.Prelude.{◌≡◌, ℕ, suc, ◌+◌, ◌<◌, ◌≤◌, ◌⊎◌, List, ◌∷◌, length, take, reverse, Bool, true, false, Option, Some, None, IfSome}
 use Rattle.std.specs.List.{AllByRecursion}
 use Rattle.hb_tree.specs.Table.{Table}
 use Rattle.hb_tree.specs.TreeAt.{tree_at, IsExprAt, IsBlockAt}
@@ -87,6 +87,35 @@ weigh_one _ = 1
 abbrev pub weigh_push : Option Cont → ℕ
 weigh_push None = 0
 weigh_push (Some k) = weigh_one k
+
+-- it is neither part of a call nor the end of a frame
+abbrev pub IsPlain : Option Cont → Type 0
+IsPlain (Some (cont.Receiver id)) = ⊥
+IsPlain (Some (cont.Arguments id n)) = ⊥
+IsPlain (Some cont.Frame) = ⊥
+IsPlain _ = Unit {0}
+
+-- it is not the end of a frame
+abbrev pub HasNoFrame : Option Cont → Type 0
+HasNoFrame (Some cont.Frame) = ⊥
+HasNoFrame _ = Unit {0}
+
+-- one unit of fuel was taken, or the script stops where there was none
+abbrev pub IsFed : (stops : Bool) → (old new : ℕ) → Type 0
+IsFed false old new = old ≡ new + 1
+IsFed true old new = (old ≡ new + 1) ⊎ ((old ≡ 0) × (new ≡ 0))
+
+-- no call was made
+pub record SameCalls (old new : State) : Type 0 where
+  pub made : new.made ≡ old.made
+  pub decided : new.decided ≡ old.decided
+  pub entered : new.entered ≡ old.entered
+
+-- nothing has begun, and no call was made
+pub record Steady (old new : State) : Type 0 where
+  pub begun : new.begun ≡ old.begun
+  pub fuel : new.fuel ≡ old.fuel
+  pub calls : SameCalls old new
 
 -- the classes of all objects in hand are classes of the program
 pub record AreKnown (t : Table) (x : State) : Type 0 where

@@ -1,5 +1,6 @@
 -- What the tables' answers mean to a script.
-use Rattle.std.specs.Prelude.{◌≡◌, ◌≤◌, ℕ, List, [], ◌∷◌, ◌++◌, length, reverse, Option, Some, Result}
+use Rattle.std.specs.Prelude.{◌≡◌, ◌≤◌, ℕ, List, [], ◌∷◌, ◌++◌, length, reverse, false, Option, Some, Result}
+use Rattle.std.specs.List.{AllByRecursion}
 use mathlib.Core.List.{IsPrefix}
 use Rattle.hb_names.specs.declared.names.TheConstants.{NAMES_MAX}
 use Rattle.hb_names.specs.Names.{Name}
@@ -11,7 +12,8 @@ use Rattle.hb_eval.specs.declared.stop.Stop.{Stop}
 use Rattle.hb_eval.specs.declared.cont.Cont.{Cont}
 use Rattle.hb_eval.specs.declared.state.State.{State}
 use Rattle.hb_eval.specs.declared.state.Move.{Move}
-use Rattle.hb_eval.specs.State.{St, Answer}
+use Rattle.hb_eval.specs.State.{St, Answer, tagged}
+use Rattle.hb_eval.specs.Runs.{is_call}
 use Rattle.hb_eval.specs.Machine.{World, Frames, resume, stands, st_of}
 use Rattle.hb_eval.specs.Steps.{onto}
 
@@ -20,15 +22,12 @@ pub record Adds (c : ℕ) (old new : List Entry) (meaning : Act → Option (Resu
   pub act : Act
   pub grows : acts c new ≡ acts c old ++ act ∷ []
   pub means : meaning act ≡ Some r
-
--- each act with the number of beginnings
-abbrev pub tagged : ℕ → List Act → List (ℕ × Act)
-tagged n [] = []
-tagged n (a ∷ more) = (n, a) ∷ tagged n more
+  pub apart : is_call act ≡ false
 
 -- Some acts come to the caller's journal. Whatever comes behind them, and whichever names come behind the known ones, what was due goes on to that move and that state.
 pub record ActsOn (known : List Name) (c : ℕ) (was now : List Entry) (before : World → St → Answer) (old new : State) (move : Move) : Type 0 where
   pub more : List Act
   pub grows : acts c now ≡ acts c was ++ more
+  pub apart : AllByRecursion (λ a. is_call a ≡ false) more
   pub same : (w : World) → IsPrefix known w.names → length w.names ≤ NAMES_MAX → (ks : List Cont) (fs : Frames) (read : List (ℕ × Act)) (journal : List Act)
       → resume w ks (reverse old.operands.items) fs (before w (st_of old read (more ++ journal))) ≡ stands w (onto move.push (onto move.under ks)) fs move.gives move.stops new (read ++ tagged new.begun more) journal

@@ -2,6 +2,7 @@
 
 ghost use Rattle.std.specs.Prelude.{◌≡◌, ◌≤◌, length, map};
 ghost use Rattle.hb_tables.specs.Rows.{kinds_of};
+ghost use Rattle.hb_call.specs.Calling.{IsArgKinds};
 ghost use Rattle.hb_eval.specs.Values.{kind_of};
 
 use crate::value::Value;
@@ -12,6 +13,7 @@ use hb_types::types::{PARAMS_MAX, Ty};
 pub fn kinds(values: &[Value]) -> ArgKinds
     requires { length values.now ≤ PARAMS_MAX }
     ensures kinds { kinds_of result ≡ map kind_of values.now }
+    ensures form { IsArgKinds result }
     ensures count { result.count ≡ length values.now }
 {
     let mut kinds = [Ty::Nil; PARAMS_MAX];

@@ -4,7 +4,7 @@ ghost use Rattle.std.specs.Prelude.{◌≡◌, ◌+◌, ◌-◌, ◌<◌, ◌≤
 ghost use Rattle.hb_tree.specs.TreeAt.{IsExprAt, tree_at};
 ghost use Rattle.hb_tree.specs.Canon.{bytes_at};
 ghost use Rattle.hb_eval.specs.declared.value.Value.TheVariants.{Str};
-ghost use Rattle.hb_eval.specs.Steps.{AreKnown, InEach, Moves, AsksNoTable};
+ghost use Rattle.hb_eval.specs.Steps.{IsPlain, HasNoFrame, IsFed, SameCalls, AreKnown, InEach, Moves, AsksNoTable};
 
 use crate::cont::Cont;
 use crate::moves::{first, give, halt};
@@ -37,7 +37,10 @@ pub(crate) fn begin(alloc: Global, prog: &Program, state: &mut State) -> Result<
     requires few { state.old.begun < 2 ^ 63 }
     requires base { state.old.base ≤ length state.old.vars.items }
     ensures moves { IfOk result (λ m. InEach prog.now (Moves None false state.old state.new m)) }
+    ensures plain { IfOk result (λ m. IsPlain m.under × HasNoFrame m.push) }
     ensures begun { state.new.begun ≡ state.old.begun + 1 }
+    ensures fuel { IfOk result (λ m. IsFed m.stops state.old.fuel state.new.fuel) }
+    ensures calls { SameCalls state.old state.new }
     ensures known { AreKnown prog.now state.old → OnOk result (AreKnown prog.now state.new) }
 {
     let id = state.at;

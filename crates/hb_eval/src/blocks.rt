@@ -5,7 +5,7 @@ ghost use Rattle.hb_tree.specs.TreeAt.{IsExprAt, IsBlockAt, tree_at, forest_at};
 ghost use Rattle.hb_tree.specs.Tree.{TBlock};
 ghost use Rattle.hb_eval.specs.declared.cont.Cont.TheVariants as cont;
 ghost use Rattle.hb_eval.specs.Machine.{meaning, items_from};
-ghost use Rattle.hb_eval.specs.Steps.{AreKnown, InEach, Moves, Starts, IsFine, weigh_push};
+ghost use Rattle.hb_eval.specs.Steps.{Steady, IsPlain, AreKnown, InEach, Moves, Starts, IsFine, weigh_push};
 
 use crate::cont::Cont;
 use crate::moves::{first, give, in_hand, next, under};
@@ -45,7 +45,8 @@ fn items_of(prog: &Program, block: NodeId) -> &[NodeId]
 fn next_item(prog: &Program, block: NodeId, at: usize, state: &mut State) -> Move
     requires block { IsBlockAt prog.now block.0 }
     ensures starts { InEach prog.now (Starts (λ w room s. items_from w room (tree_at w.program block.0) at state.old.acc s) state.old state.new result) }
-    ensures begun { state.new.begun ≡ state.old.begun }
+    ensures plain { IsPlain result.push }
+    ensures steady { Steady state.old state.new }
     ensures known { AreKnown prog.now state.old → AreKnown prog.now state.new }
     ensures under { result.under ≡ None }
 {
@@ -66,7 +67,8 @@ fn next_item(prog: &Program, block: NodeId, at: usize, state: &mut State) -> Mov
 pub(crate) fn start_block(prog: &Program, block: NodeId, state: &mut State) -> Move
     requires { IsBlockAt prog.now block.0 }
     ensures starts { InEach prog.now (Starts (λ w room. meaning w room block.0) state.old state.new result) }
-    ensures begun { state.new.begun ≡ state.old.begun }
+    ensures plain { IsPlain result.push }
+    ensures steady { Steady state.old state.new }
     ensures known { AreKnown prog.now state.old → AreKnown prog.now state.new }
     ensures under { result.under ≡ None }
 {
@@ -79,7 +81,8 @@ pub(crate) fn start_block(prog: &Program, block: NodeId, state: &mut State) -> M
 pub(crate) fn choose(prog: &Program, a: NodeId, b: NodeId, state: &mut State) -> Move
     requires fine { IsFine prog.now (cont.Choose a b) }
     ensures moves { InEach prog.now (Moves (Some (cont.Choose a b)) true state.old state.new result) }
-    ensures begun { state.new.begun ≡ state.old.begun }
+    ensures plain { IsPlain result.under × IsPlain result.push }
+    ensures steady { Steady state.old state.new }
     ensures known { AreKnown prog.now state.old → AreKnown prog.now state.new }
     ensures light { weigh_push result.under < 1 }
 {
@@ -95,7 +98,8 @@ pub(crate) fn choose(prog: &Program, a: NodeId, b: NodeId, state: &mut State) ->
 pub(crate) fn test(prog: &Program, condition: NodeId, block: NodeId, state: &mut State) -> Move
     requires fine { IsFine prog.now (cont.Test condition block) }
     ensures moves { InEach prog.now (Moves (Some (cont.Test condition block)) true state.old state.new result) }
-    ensures begun { state.new.begun ≡ state.old.begun }
+    ensures plain { IsPlain result.under × IsPlain result.push }
+    ensures steady { Steady state.old state.new }
     ensures known { AreKnown prog.now state.old → AreKnown prog.now state.new }
     ensures light { weigh_push result.under < 2 }
 {
@@ -112,7 +116,8 @@ pub(crate) fn test(prog: &Program, condition: NodeId, block: NodeId, state: &mut
 pub(crate) fn turn(prog: &Program, condition: NodeId, block: NodeId, state: &mut State) -> Move
     requires fine { IsFine prog.now (cont.Turn condition block) }
     ensures moves { InEach prog.now (Moves (Some (cont.Turn condition block)) true state.old state.new result) }
-    ensures begun { state.new.begun ≡ state.old.begun }
+    ensures plain { IsPlain result.under × IsPlain result.push }
+    ensures steady { Steady state.old state.new }
     ensures known { AreKnown prog.now state.old → AreKnown prog.now state.new }
     ensures light { weigh_push result.under < 1 }
 {
@@ -124,7 +129,8 @@ pub(crate) fn turn(prog: &Program, condition: NodeId, block: NodeId, state: &mut
 pub(crate) fn items(prog: &Program, block: NodeId, at: u32, state: &mut State) -> Move
     requires fine { IsFine prog.now (cont.Items block at) }
     ensures moves { InEach prog.now (Moves (Some (cont.Items block at)) true state.old state.new result) }
-    ensures begun { state.new.begun ≡ state.old.begun }
+    ensures plain { IsPlain result.under × IsPlain result.push }
+    ensures steady { Steady state.old state.new }
     ensures known { AreKnown prog.now state.old → AreKnown prog.now state.new }
     ensures light { weigh_push result.under < 1 }
 {

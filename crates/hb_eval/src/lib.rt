@@ -4,11 +4,18 @@
 pub mod arguments;
 mod begin;
 mod blocks;
+mod calls;
 pub mod cont;
+pub mod framed;
+mod frames;
+mod leaving;
+pub mod machine;
 mod methods;
 mod moves;
+mod named;
 pub mod operators;
 pub mod printed;
+pub mod script_run;
 pub mod spelling;
 pub mod state;
 mod steps;
@@ -17,5 +24,6 @@ mod tables;
 #[cfg(test)]
 mod tests;
 pub mod text;
+mod turns;
 pub mod value;
 mod vars;

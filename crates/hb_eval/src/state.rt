@@ -3,7 +3,7 @@
 use crate::cont::Cont;
 use crate::stop::Stop;
 use crate::value::Value;
-use hb_types::ids::{CallNo, ClassId, NameId, NodeId};
+use hb_types::ids::{ClassId, NameId, NodeId};
 
 /// What a script has in hand beside its frames and what is left to do.
 #[derive(Drop)]
@@ -24,9 +24,14 @@ pub struct State {
     /// The class of self, where a method runs.
     pub class: Option<ClassId>,
     pub fuel: u32,
+    /// How many expressions have begun.
     pub begun: u64,
-    /// The number of the next call.
-    pub next: CallNo,
+    /// How many calls were made. Their numbers go from 1 on.
+    pub made: u32,
+    /// How many of them were decided.
+    pub decided: u32,
+    /// How many of them entered, each on a fresh check.
+    pub entered: u32,
 }
 
 /// What a step leaves to do: behind, and first once a value is there. Then whether a value is in hand, or a stop; else an expression begins.

@@ -5,7 +5,7 @@ ghost use Rattle.hb_tree.specs.TreeAt.{IsExprAt, IsBlockAt, tree_at};
 ghost use Rattle.hb_eval.specs.declared.cont.Cont.TheVariants as cont;
 ghost use Rattle.hb_eval.specs.Values.{IsKnown};
 ghost use Rattle.hb_eval.specs.Machine.{meaning, items_from};
-ghost use Rattle.hb_eval.specs.Steps.{AreKnown, InEach, Moves, Starts, IsFine, weigh_push};
+ghost use Rattle.hb_eval.specs.Steps.{Steady, IsPlain, AreKnown, InEach, Moves, Starts, IsFine, weigh_push};
 
 use crate::cont::Cont;
 use crate::moves::{first, give, halt, in_hand, next, under};
@@ -32,7 +32,8 @@ pub(crate) fn left(
 ) -> Result<Move, AllocError>
     requires fine { IsExprAt prog.now right.0 }
     ensures moves { IfOk result (λ m. InEach prog.now (Moves (Some (cont.Left id op right)) true state.old state.new m)) }
-    ensures begun { state.new.begun ≡ state.old.begun }
+    ensures plain { IfOk result (λ m. IsPlain m.under × IsPlain m.push) }
+    ensures steady { Steady state.old state.new }
     ensures known { AreKnown prog.now state.old → OnOk result (AreKnown prog.now state.new) }
     ensures light { IfOk result (λ m. weigh_push m.under < 1) }
 {
@@ -52,7 +53,8 @@ pub(crate) fn right(
 ) -> Result<Move, AllocError>
     requires operand { 1 ≤ length state.old.operands.items }
     ensures moves { IfOk result (λ m. InEach prog.now (Moves (Some (cont.Right id op)) true state.old state.new m)) }
-    ensures begun { state.new.begun ≡ state.old.begun }
+    ensures plain { IfOk result (λ m. IsPlain m.under × IsPlain m.push) }
+    ensures steady { Steady state.old state.new }
     ensures known { AreKnown prog.now state.old → OnOk result (AreKnown prog.now state.new) }
     ensures light { IfOk result (λ m. weigh_push m.under < 1) }
 {
@@ -71,7 +73,8 @@ pub(crate) fn right(
 pub(crate) fn assign(prog: &Program, name: NameId, state: &mut State) -> Result<Move, AllocError>
     requires base { state.old.base ≤ length state.old.vars.items }
     ensures moves { IfOk result (λ m. InEach prog.now (Moves (Some (cont.Assign name)) true state.old state.new m)) }
-    ensures begun { state.new.begun ≡ state.old.begun }
+    ensures plain { IfOk result (λ m. IsPlain m.under × IsPlain m.push) }
+    ensures steady { Steady state.old state.new }
     ensures known { AreKnown prog.now state.old → OnOk result (AreKnown prog.now state.new) }
     ensures light { IfOk result (λ m. weigh_push m.under < 1) }
 {
@@ -84,7 +87,8 @@ pub(crate) fn assign(prog: &Program, name: NameId, state: &mut State) -> Result<
 #[tactic(auto, unfolding(crate::specs::State::then_do))]
 pub(crate) fn not(prog: &Program, state: &mut State) -> Move
     ensures moves { InEach prog.now (Moves (Some cont.Not) true state.old state.new result) }
-    ensures begun { state.new.begun ≡ state.old.begun }
+    ensures plain { IsPlain result.under × IsPlain result.push }
+    ensures steady { Steady state.old state.new }
     ensures known { AreKnown prog.now state.old → AreKnown prog.now state.new }
     ensures light { weigh_push result.under < 1 }
 {
@@ -97,7 +101,8 @@ pub(crate) fn not(prog: &Program, state: &mut State) -> Move
 pub(crate) fn to_text(alloc: Global, prog: &Program, state: &mut State) -> Result<Move, AllocError>
     requires known { IsKnown prog.now state.old.acc }
     ensures moves { IfOk result (λ m. InEach prog.now (Moves (Some cont.ToStr) true state.old state.new m)) }
-    ensures begun { state.new.begun ≡ state.old.begun }
+    ensures plain { IfOk result (λ m. IsPlain m.under × IsPlain m.push) }
+    ensures steady { Steady state.old state.new }
     ensures known { AreKnown prog.now state.old → OnOk result (AreKnown prog.now state.new) }
     ensures light { IfOk result (λ m. weigh_push m.under < 1) }
 {
@@ -115,7 +120,8 @@ pub(crate) fn print_value(
 ) -> Result<Move, AllocError>
     requires known { IsKnown prog.now state.old.acc }
     ensures moves { IfOk result (λ m. InEach prog.now (Moves (Some (cont.Print id)) true state.old state.new m)) }
-    ensures begun { state.new.begun ≡ state.old.begun }
+    ensures plain { IfOk result (λ m. IsPlain m.under × IsPlain m.push) }
+    ensures steady { Steady state.old state.new }
     ensures known { AreKnown prog.now state.old → OnOk result (AreKnown prog.now state.new) }
     ensures light { IfOk result (λ m. weigh_push m.under < 1) }
 {

@@ -1,7 +1,9 @@
-use Rattle.std.proofs.Common.{ap, Err}
+use Rattle.std.proofs.Common.{ap, sym, ◌∙◌, Err}
 use Rattle.hb_tables.specs.Frames.{acts}
 use Rattle.hb_eval.specs.Methods.{declare_meaning}
 use Rattle.hb_eval.proofs.MethodLemmas.{given, stopped, full}
+use Rattle.hb_call.specs.GrowthLaws.{grown_itself}
+use Rattle.hb_call.proofs.GrowthLemmas.{key_named}
 use Rattle.hb_eval.proofs.methods.declare.Goals as goal
 
 pub returns-in-Ok-declare-clause-acts : goal.returns-in-Ok-declare-clause-acts
@@ -17,3 +19,16 @@ returns-in-Err-clause-acts g c =
 pub returns-in-Err-Full-clause-acts : goal.returns-in-Err-Full-clause-acts
 returns-in-Err-Full-clause-acts g c =
     full _ _ _ _ c.args.id (c.args.class.0, c.args.name.now) (λ key. declare_meaning c.args.asks key c.args.site.0) _ _ _ (c.in-Err-Full.ensures.full.0 (ap Err c.in-Err-Full.field-0-is)) (ap (acts _) c.reserve.ensures.front) c.halt-in-Err-Full.ensures.state c.halt-in-Err-Full.ensures.value
+
+pub returns-in-Ok-declare-clause-grown : goal.returns-in-Ok-declare-clause-grown
+returns-in-Ok-declare-clause-grown g c t =
+    rw (← c.reserve.ensures.front, ← c.reserve.ensures.fixed)
+    (c.declare.ensures.grown t _ _ _ c.in-Ok.ensures.below (λ names p. c.in-Ok.ensures.asked ∙ sym (key_named _ names _ (c.args.class.0, c.args.name.now) c.in-Ok.key.0 c.in-Ok.ensures.key p)))
+
+pub returns-in-Err-clause-grown : goal.returns-in-Err-clause-grown
+returns-in-Err-clause-grown g c t =
+    rw (← c.reserve.ensures.front, ← c.reserve.ensures.fixed)
+    (c.declare.ensures.grown t _ _ _ c.in-Ok.ensures.below (λ names p. c.in-Ok.ensures.asked ∙ sym (key_named _ names _ (c.args.class.0, c.args.name.now) c.in-Ok.key.0 c.in-Ok.ensures.key p)))
+
+pub returns-in-Err-Full-clause-grown : goal.returns-in-Err-Full-clause-grown
+returns-in-Err-Full-clause-grown g c t = rw (c.reserve.ensures.front, c.in-Err-Full.ensures.unasked) (grown_itself t _ _ _ _)

@@ -1,0 +1,280 @@
+-- How a machine goes on, turn by turn.
+use Rattle.std.proofs.Common.{◌≡◌, ℕ, ◌+◌, ◌<◌, ◌≤◌, ◌^◌, inl, List, [], ◌∷◌, ◌++◌, length, Option, Some, None, Bool, true, false, refl, sym, ap, ◌∙◌, subst, arith, length-append, Vec, Global}
+use Rattle.std.specs.Prelude.{reverse}
+use Rattle.std.specs.List.{AllByRecursion}
+use mathlib.Core.List.{IsPrefix}
+use Rattle.hb_tree.specs.Table.{Table}
+use Rattle.hb_names.specs.Names.{Name}
+use Rattle.hb_tables.specs.declared.entry.Entry.{Entry}
+use Rattle.hb_tables.specs.declared.entry.Act.{Act}
+use Rattle.hb_call.specs.Growth.{Grown}
+use Rattle.hb_call.specs.GrowthLaws.{grown_itself, grown_on}
+use Rattle.hb_eval.specs.declared.cont.Cont.{Cont}
+use Rattle.hb_eval.specs.declared.cont.Cont.TheVariants as cont
+use Rattle.hb_eval.specs.declared.framed.Framed.{Framed}
+use Rattle.hb_eval.specs.declared.state.State.{State}
+use Rattle.hb_eval.specs.declared.state.Move.{Move}
+use Rattle.hb_eval.specs.declared.machine.Machine.{Machine}
+use Rattle.hb_eval.specs.declared.machine.Turn.{Turn}
+use Rattle.hb_eval.specs.declared.machine.Turn.TheVariants as turn
+use Rattle.hb_call.specs.Held.{stands}
+use Rattle.hb_eval.specs.Holding.{Holding, frames_of}
+use Rattle.hb_eval.proofs.HoldingLemmas.{holding_end}
+use Rattle.hb_eval.specs.State.{tagged}
+use Rattle.hb_eval.specs.Machine.{need, frames_in}
+use Rattle.hb_eval.specs.Steps.{onto, InEach, Moves, IsFed, IsFine, IsLight, IsPlain, Steady, AreKnown, weigh_one, weigh_push}
+use Rattle.hb_eval.specs.Stacks.{calls_in}
+use Rattle.hb_eval.specs.Ends.{Lowers, with_stop}
+use Rattle.hb_eval.specs.Turns.{Telling, Reads, Goes, after, at_beginning, stands_at}
+use Rattle.hb_eval.specs.Machines.{Advances, Begins, Carries, IsFineMachine, IsGoing, IsLast, IsNext, IsOneBlock, IsRest, IsTimed, Opens, Turns, answer, of_machine, sum_over}
+use Rattle.hb_eval.proofs.StackLemmas.{pushed_first, next_last}
+use Rattle.hb_eval.proofs.TurnLemmas.{reads_none, reads_on}
+use Rattle.hb_eval.proofs.GoesLemmas.{keeps_moves, plain_goes}
+use Rattle.hb_eval.proofs.MachineLemmas.{moves_same, needs_onto, frames_onto, calls_onto, fine_move, lowers_moves}
+
+-- a move that was done leaves the machine fine
+fine_moved : (t : Table) (taken ended pending : ℕ) (old new : Machine) (ks : List Cont) (m : Move) → IsFineMachine t old → Goes t taken ended pending old.frames.items old.state new.frames.items new.state m
+    → AllByRecursion (IsFine t) ks → length old.state.operands.items ≡ taken + sum_over need ks → length old.frames.items ≡ ended + sum_over frames_in ks → old.state.made + (pending + sum_over calls_in ks) ≤ old.state.begun
+    → new.gives ≡ m.gives → new.stops ≡ m.stops → reverse new.conts.items ≡ onto m.push (onto m.under ks) → IsTimed m.stops new.state → IsFineMachine t new
+fine_moved t taken ended pending old new ks m f g all ops frs calls gives stops conts time = record {
+  conts = subst (AllByRecursion (IsFine t)) (sym conts) (fine_move t m ks g.push g.under all);
+  step = rw (gives, stops) g.step;
+  operands = let e = ap (sum_over need) conts ∙ needs_onto m ks in let h = g.operands in omega (arith, e, h, ops);
+  frames = let e = ap (sum_over frames_in) conts ∙ frames_onto m ks in let h = g.frames in omega (arith, e, h, frs);
+  calls = let e = ap (sum_over calls_in) conts ∙ calls_onto m ks in let h = g.calls in omega (arith, e, h, calls);
+  decided = g.decided f.decided;
+  entered = g.entered f.entered;
+  based = g.based f.based;
+  known = g.known f.known;
+  time = subst (λ b. IsTimed b new.state) (sym stops) time;
+}
+
+time_on : (b : Bool) (x y : State) → x.begun + x.fuel < 2 ^ 32 → y.begun ≡ x.begun → y.fuel ≡ x.fuel → IsTimed b y
+time_on true x y h begun fuel = tt
+time_on false x y h begun fuel = omega (arith, h, begun, fuel)
+
+time_fed : (b : Bool) (x y : State) → x.begun + x.fuel < 2 ^ 32 → y.begun ≡ x.begun + 1 → IsFed b x.fuel y.fuel → IsTimed b y
+time_fed true x y h begun fed = tt
+time_fed false x y h begun fed = omega (arith, h, begun, fed)
+
+-- the answer of a machine behind a move
+moved_same : (t : Table) (new : Machine) (ks : List Cont) (m : Move) → new.gives ≡ m.gives → new.stops ≡ m.stops → reverse new.conts.items ≡ onto m.push (onto m.under ks)
+    → (names : List Name) (read : List (ℕ × Act)) (journal : List Act) → after t m new.frames.items new.state names ks read journal ≡ answer t names new read journal
+moved_same t new ks m gives stops conts names read journal =
+    ap (λ l. stands_at t names l new.frames.items m.gives m.stops new.state read journal) (sym conts)
+    ∙ ap (λ b. stands_at t names (reverse new.conts.items) new.frames.items b m.stops new.state read journal) (sym gives)
+    ∙ ap (λ b. stands_at t names (reverse new.conts.items) new.frames.items new.gives b new.state read journal) (sym stops)
+
+-- the answer of a machine that is seen so
+seen_same : (t : Table) (old : Machine) (ks : List Cont) (g s : Bool) → old.gives ≡ g → old.stops ≡ s → reverse old.conts.items ≡ ks
+    → (names : List Name) (read : List (ℕ × Act)) (journal : List Act) → answer t names old read journal ≡ stands_at t names ks old.frames.items g s old.state read journal
+seen_same t old ks g s gives stops conts names read journal =
+    ap (λ l. stands_at t names l old.frames.items old.gives old.stops old.state read journal) conts
+    ∙ ap (λ b. stands_at t names ks old.frames.items b old.stops old.state read journal) gives
+    ∙ ap (λ b. stands_at t names ks old.frames.items g b old.state read journal) stops
+
+moved_reads : (t : Table) (known : List Name) (c : ℕ) (past now : List Entry) (old new : Machine) (ks : List Cont) (m : Move) (told : Telling)
+    → ((names : List Name) (read : List (ℕ × Act)) (journal : List Act) → answer t names old read journal ≡ told names ks read journal)
+    → Reads known c past now old.state new.state told (after t m new.frames.items new.state) → new.gives ≡ m.gives → new.stops ≡ m.stops → reverse new.conts.items ≡ onto m.push (onto m.under ks)
+    → Reads known c past now old.state new.state (of_machine t old) (of_machine t new)
+moved_reads t known c past now old new ks m told is r gives stops conts = record {
+  more = r.more;
+  grows = r.grows;
+  same = λ names p few low read journal.
+      is names read (r.more ++ journal)
+      ∙ r.same names p few ks read journal
+      ∙ moved_same t new ks m gives stops conts names (read ++ tagged new.state.begun r.more) journal;
+  tallies = r.tallies;
+}
+
+rest_fine : (t : Table) (m : Machine) (k : Cont) (ks : List Cont) → reverse m.conts.items ≡ k ∷ ks → IsFineMachine t m → AllByRecursion (IsFine t) ks
+rest_fine t m k ks top f = (subst (AllByRecursion (IsFine t)) top f.conts).1
+
+rest_calls : (t : Table) (m : Machine) (k : Cont) (ks : List Cont) → reverse m.conts.items ≡ k ∷ ks → IsFineMachine t m → m.state.made + (calls_in k + sum_over calls_in ks) ≤ m.state.begun
+rest_calls t m k ks top f = subst (λ l. m.state.made + sum_over calls_in l ≤ m.state.begun) top f.calls
+
+some_weight : (k : Cont) → 1 ≤ weigh_one k
+some_weight (cont.Test c b) = omega arith
+some_weight (cont.Receiver id) = omega arith
+some_weight (cont.Arguments id n) = omega arith
+some_weight _ = omega arith
+
+-- a stop passed what was to be done
+pub stop_turn : (t : Table) (c : ℕ) (known asked : List Name) (past now : List Entry) (old new : Machine) (k : Cont) (ks : List Cont) → old.stops ≡ true → reverse old.conts.items ≡ k ∷ ks → IsFineMachine t old
+    → Reads known c past now old.state new.state (with_stop t (k ∷ []) old.gives old.frames.items old.state) (with_stop t [] old.gives new.frames.items new.state) → Lowers t (need k) (frames_in k) old.frames.items old.state new.frames.items new.state
+    → Grown t c known asked asked past now → new.gives ≡ old.gives → new.stops ≡ old.stops → reverse new.conts.items ≡ ks
+    → Carries t c known asked asked past now old new
+stop_turn t c known asked past now old new k ks stopped top f r low grown gives stops conts =
+    let m : Move = record { under = None; push = None; gives = old.gives; stops = true } in
+    let g = lowers_moves t k old.gives old.frames.items old.state new.frames.items new.state low in
+    record {
+      reads = moved_reads t known c past now old new ks m (with_stop t (k ∷ []) old.gives old.frames.items old.state) (seen_same t old (k ∷ ks) old.gives true refl stopped top) r gives (stops ∙ stopped) conts;
+      fine = fine_moved t (need k) (frames_in k) (calls_in k) old new ks m f g (rest_fine t old k ks top f) (f.operands ∙ ap (sum_over need) top) (f.frames ∙ ap (sum_over frames_in) top) (rest_calls t old k ks top f) gives (stops ∙ stopped) conts tt;
+      begun = low.steady.begun;
+      fuel = low.steady.fuel;
+      stops = λ h. stops ∙ h;
+      grown = grown;
+    }
+
+-- nothing was done
+pub carries_held : (t : Table) (c : ℕ) (known asked : List Name) (log : List Entry) (old : Machine) (v : Vec Cont Global) → v.items ≡ old.conts.items → IsFineMachine t old → Carries t c known asked asked log log old (record old { conts = v })
+carries_held t c known asked log old v e f = record {
+  reads = reads_none known c log log old.state old.state (of_machine t old) (of_machine t (record old { conts = v })) refl (record { made = refl; decided = refl; entered = refl })
+      (λ names ks read journal. ap (λ l. stands_at t names (reverse l) old.frames.items old.gives old.stops old.state read journal) (sym e));
+  fine = record {
+    conts = subst (λ l. AllByRecursion (IsFine t) (reverse l)) (sym e) f.conts;
+    step = f.step;
+    operands = subst (λ l. length old.state.operands.items ≡ sum_over need (reverse l)) (sym e) f.operands;
+    frames = subst (λ l. length old.frames.items ≡ sum_over frames_in (reverse l)) (sym e) f.frames;
+    calls = subst (λ l. old.state.made + sum_over calls_in (reverse l) ≤ old.state.begun) (sym e) f.calls;
+    decided = f.decided;
+    entered = f.entered;
+    based = f.based;
+    known = f.known;
+    time = f.time;
+  };
+  begun = refl;
+  fuel = refl;
+  stops = λ h. h;
+  grown = grown_itself t c known asked log;
+}
+
+pub carries_on : (t : Table) (c : ℕ) (known longer was mid asked : List Name) (past half now : List Entry) (old m new : Machine) → IsPrefix known longer → Carries t c known was mid past half old m → Carries t c longer mid asked half now m new → Carries t c longer was asked past now old new
+carries_on t c known longer was mid asked past half now old m new p a b = record {
+  reads = reads_on known longer c past half now old.state m.state new.state (of_machine t old) (of_machine t m) (of_machine t new) p (sym b.begun) a.reads b.reads;
+  fine = b.fine;
+  begun = b.begun ∙ a.begun;
+  fuel = b.fuel ∙ a.fuel;
+  stops = λ h. b.stops (a.stops h);
+  grown = grown_on t c known longer was mid asked past half now a.grown b.grown p;
+}
+
+-- an expression began
+pub begin_turn : (t : Table) (c : ℕ) (known was asked : List Name) (past now : List Entry) (old new : Machine) (m : Move) → old.gives ≡ false → old.stops ≡ false → IsFineMachine t old
+    → Reads known c past now old.state new.state (at_beginning t old.frames.items old.state) (after t m new.frames.items new.state) → Goes t 0 0 0 old.frames.items old.state new.frames.items new.state m
+    → new.state.begun ≡ old.state.begun + 1 → IsFed m.stops old.state.fuel new.state.fuel → Grown t c known was asked past now → new.gives ≡ m.gives → new.stops ≡ m.stops → reverse new.conts.items ≡ onto m.push (onto m.under (reverse old.conts.items))
+    → Begins t c known was asked past now old new
+begin_turn t c known was asked past now old new m given going f r g begun fed grown gives stops conts =
+    let ks = reverse old.conts.items in
+    record {
+      reads = moved_reads t known c past now old new ks m (at_beginning t old.frames.items old.state) (seen_same t old ks false false given going refl) r gives stops conts;
+      fine = fine_moved t 0 0 0 old new ks m f g f.conts (let e = f.operands in omega (arith, e)) (let e = f.frames in omega (arith, e)) (let e = f.calls in omega (arith, e)) gives stops conts (time_fed m.stops old.state new.state (subst (λ b. IsTimed b old.state) going f.time) begun fed);
+      begun = begun;
+      fed = subst (λ b. IsFed b old.state.fuel new.state.fuel) (sym stops) fed;
+      grown = grown;
+    }
+
+fed_on : (a b : Bool) (n m o : ℕ) → (a ≡ true → b ≡ true) → o ≡ m → IsFed a n m → IsFed b n o
+fed_on false false n m o h e fed = subst (IsFed false n) (sym e) fed
+fed_on false true n m o h e fed = subst (IsFed true n) (sym e) (inl fed)
+fed_on true true n m o h e fed = subst (IsFed true n) (sym e) fed
+fed_on true false n m o h e fed = let w = h refl in absurd (cc w)
+
+pub begins_on : (t : Table) (c : ℕ) (known longer was mid asked : List Name) (past half now : List Entry) (old m new : Machine) → IsPrefix known longer → Begins t c known was mid past half old m → Carries t c longer mid asked half now m new → Begins t c longer was asked past now old new
+begins_on t c known longer was mid asked past half now old m new p a b = record {
+  reads = reads_on known longer c past half now old.state m.state new.state (of_machine t old) (of_machine t m) (of_machine t new) p (sym b.begun) a.reads b.reads;
+  fine = b.fine;
+  begun = b.begun ∙ a.begun;
+  fed = fed_on m.stops new.stops old.state.fuel m.state.fuel new.state.fuel b.stops b.fuel a.fed;
+  grown = grown_on t c known longer was mid asked past half now a.grown b.grown p;
+}
+
+next_first : (g s : Bool) (n : ℕ) (ks : List Cont) → IsNext g s n ks → g ≡ true → (s ≡ false) × (n ≡ 0) × IsOneBlock ks
+next_first true false n ks h e = (refl, h.0, h.1)
+next_first true true n ks h e = absurd h
+next_first false s n ks h e = absurd (cc e)
+
+one_block : (ks rest : List Cont) (k : Cont) → IsOneBlock ks → ks ≡ rest ++ k ∷ [] → rest ≡ []
+one_block [] rest k one e = absurd one
+one_block (x ∷ y ∷ ks) rest k (one) e = absurd (no_two x y ks one)
+  where
+    no_two : (x y : Cont) (ks : List Cont) → IsOneBlock (x ∷ y ∷ ks) → ⊥
+    no_two (cont.Items block at) y ks one = one
+    no_two _ y ks one = one
+one_block (x ∷ []) [] k one e = refl
+one_block (x ∷ []) (y ∷ rest) k one e = let n = ap length e in let a = length-append rest (k ∷ []) in absurd (omega (arith, n, a))
+
+none_reversed : (xs : List Cont) → reverse xs ≡ [] → xs ≡ []
+none_reversed [] e = refl
+none_reversed (x ∷ xs) e = let n = ap length (sym (next_last x xs) ∙ e) in let a = length-append (reverse xs) (x ∷ []) in absurd (omega (arith, n, a))
+
+rest_moved : (g s : Bool) (push under : Option Cont) (ks : List Cont) → IsLight g s push → weigh_push under < 1 → reverse ks ≡ onto push (onto under []) → IsRest g s ks
+rest_moved false false push under ks light less e = tt
+rest_moved true s push under ks light less e = none_reversed ks (e ∙ ap (λ p. onto p (onto under [])) light ∙ no_under under less)
+  where
+    no_under : (k : Option Cont) → weigh_push k < 1 → onto k [] ≡ []
+    no_under None h = refl
+    no_under (Some k) h = let w = some_weight k in absurd (omega (arith, h, w))
+rest_moved false true push under ks light less e = none_reversed ks (e ∙ ap (λ p. onto p (onto under [])) light ∙ no_under under less)
+  where
+    no_under : (k : Option Cont) → weigh_push k < 1 → onto k [] ≡ []
+    no_under None h = refl
+    no_under (Some k) h = let w = some_weight k in absurd (omega (arith, h, w))
+
+-- the block of a new machine begins
+pub opens_block : (t : Table) (old new : Machine) (rest : List Cont) (k : Cont) (m : Move) → IsFineMachine t old → IsGoing old → old.gives ≡ true → old.conts.items ≡ rest ++ k ∷ []
+    → InEach t (Moves (Some k) true old.state new.state m) → IsPlain m.under × IsPlain m.push → Steady old.state new.state → (AreKnown t old.state → AreKnown t new.state) → weigh_push m.under < 1 → (frames_in k ≡ 0) × (calls_in k ≡ 0)
+    → new.frames.items ≡ old.frames.items → new.gives ≡ m.gives → new.stops ≡ m.stops → reverse new.conts.items ≡ onto m.push (onto m.under (reverse rest))
+    → Opens t old new
+opens_block t old new rest k m f going given all moves plain steady known less quiet frames gives stops conts =
+    let first = next_first old.gives old.stops old.state.begun old.conts.items going given in
+    let none : rest ≡ [] = one_block old.conts.items rest k first.2 all in
+    let ks = reverse rest in
+    let top : reverse old.conts.items ≡ k ∷ ks = ap reverse all ∙ pushed_first rest k in
+    let goes : Goes t (need k) 0 0 old.frames.items old.state old.frames.items new.state m = plain_goes t (Some k) old.frames.items old.state new.state m (keeps_moves t (Some k) true old.state new.state m moves) plain.0 plain.1 steady known in
+    let g : Goes t (need k) (frames_in k) (calls_in k) old.frames.items old.state new.frames.items new.state m =
+    subst (λ n. Goes t (need k) n (calls_in k) old.frames.items old.state new.frames.items new.state m) (sym quiet.0) (subst (λ n. Goes t (need k) 0 n old.frames.items old.state new.frames.items new.state m) (sym quiet.1)
+    (subst (λ l. Goes t (need k) 0 0 old.frames.items old.state l new.state m) (sym frames) goes)) in
+    record {
+      same = λ names read journal.
+          seen_same t old (k ∷ ks) true false given first.0 top names read journal
+          ∙ moves_same t (Some k) true old.frames.items old.state new.state m moves names ks read journal
+          ∙ ap (λ l. after t m l new.state names ks read journal) (sym frames)
+          ∙ moved_same t new ks m gives stops conts names read journal;
+      fine = fine_moved t (need k) (frames_in k) (calls_in k) old new ks m f g (rest_fine t old k ks top f) (f.operands ∙ ap (sum_over need) top) (f.frames ∙ ap (sum_over frames_in) top) (rest_calls t old k ks top f)
+          gives stops conts (time_on m.stops old.state new.state (subst (λ b. IsTimed b old.state) first.0 f.time) steady.begun steady.fuel);
+      steady = steady;
+      rest = rw (gives, stops) (rest_moved m.gives m.stops m.push m.under new.conts.items g.light less (conts ∙ ap (λ l. onto m.push (onto m.under (reverse l))) none));
+      first = λ h. absurd (cc (h, given));
+    }
+
+-- the block has its value at once
+pub opened_advances : (t : Table) (c : ℕ) (known asked : List Name) (log : List Entry) (old new : Machine) → Opens t old new → Advances t c known asked asked log log old new
+opened_advances t c known asked log old new o = record {
+  reads = reads_none known c log log old.state new.state (of_machine t old) (of_machine t new) refl o.steady.calls (λ names ks read journal. o.same names read journal);
+  fine = o.fine;
+  grown = grown_itself t c known asked log;
+}
+
+pub begun_advances : (t : Table) (c : ℕ) (known was asked : List Name) (past now : List Entry) (old m new : Machine) → Opens t old m → Begins t c known was asked past now m new → Advances t c known was asked past now old new
+begun_advances t c known was asked past now old m new o b = record {
+  reads = record {
+    more = b.reads.more;
+    grows = b.reads.grows;
+    same = λ names p few ks read journal. o.same names read (b.reads.more ++ journal) ∙ b.reads.same names p few ks read journal;
+    tallies = record {
+      decided = let e = b.reads.tallies.decided in let s = o.steady.calls.decided in omega (arith, e, s);
+      entered = let e = b.reads.tallies.entered in let s = o.steady.calls.entered in omega (arith, e, s);
+      own = b.reads.tallies.own;
+      shared = b.reads.tallies.shared;
+    };
+  };
+  fine = b.fine;
+  grown = b.grown;
+}
+
+no_frames : (fs : List Framed) → length fs ≡ 0 → fs ≡ []
+no_frames [] e = refl
+no_frames (f ∷ fs) e = absurd (omega (arith, e))
+
+pub last_none : (g s : Bool) (ks : List Cont) → IsLast g s ks → ks ≡ []
+last_none false false ks h = absurd h
+last_none true s ks h = h
+last_none false true ks h = h
+
+-- a run that has ended has no frame, and holds nothing
+pub ended_nothing : (t : Table) (c next : ℕ) (front : List Entry) (old m : Machine) (way : Turn) → IsFineMachine t m → Holding c next (frames_of m.frames.items) front → Turns way old m → way ≡ turn.Ended → (q : ℕ) → stands c q front ≡ []
+ended_nothing t c next front old m turn.More f h turns is q = absurd (cc is)
+ended_nothing t c next front old m turn.Ended f h turns is q =
+    let none = no_frames m.frames.items (f.frames ∙ ap (λ l. sum_over frames_in (reverse l)) (last_none m.gives m.stops m.conts.items turns)) in
+    holding_end c next front (subst (λ l. Holding c next (frames_of l) front) none h) q

@@ -1,0 +1,17 @@
+use Rattle.std.proofs.Common.{◌≡◌, ◌+◌}
+use Rattle.hb_eval.specs.Holding.{Holding, frames_of}
+use Rattle.hb_eval.specs.Staying.{Stays}
+use Rattle.hb_eval.specs.Machines.{Carries, turns_left}
+use Rattle.hb_eval.proofs.machine.Machine.settle.Given as goal
+
+abbrev pub invariant-steps : goal.invariant-steps
+invariant-steps g l = record {
+  carries : Carries l.prog (g.D.Desk.fixed l.fn.desk).caller (g.N.Names.known l.names) (g.N.Names.asked l.fn.names) (g.N.Names.asked l.names) (g.D.Desk.front l.fn.desk) (g.D.Desk.front l.desk) l.fn.self l.self;
+  holding : Holding (g.D.Desk.fixed l.fn.desk).caller (l.self.state.made + 1) (frames_of l.self.frames.items) (g.D.Desk.front l.desk);
+  stays : Stays (g.D.Desk.fixed l.fn.desk) (g.D.Desk.fixed l.desk) (g.D.Desk.front l.fn.desk) (g.D.Desk.front l.desk) (g.N.Names.known l.fn.names) (g.N.Names.known l.names);
+  alike : g.N.Names.alike l.fn.names l.names;
+  caller : l.self.caller ≡ l.fn.self.caller;
+}
+
+abbrev pub decreases-steps : goal.decreases-steps
+decreases-steps g l = turns_left l.self

@@ -1,0 +1,197 @@
+//! How a `def` or a `type` begins whose name is plain, and how it goes on once its computed name is there.
+
+ghost use Rattle.std.specs.Prelude.{◌≡◌, ◌+◌, ◌<◌, ◌^◌, ℕ, length, IfOk, OnOk, MatchResult, None, Some};
+ghost use Rattle.std.specs.List.{AllByRecursion};
+ghost use Rattle.hb_tree.specs.Table.{Table};
+ghost use Rattle.hb_tree.specs.TreeAt.{tree_at};
+ghost use Rattle.hb_tree.specs.Canon.{bytes_at};
+ghost use Rattle.hb_call.specs.Held.{stands};
+ghost use Rattle.hb_call.specs.Growth.{Grown};
+ghost use Rattle.hb_eval.specs.declared.cont.Cont.TheVariants as cont;
+ghost use Rattle.hb_eval.specs.State as meaning;
+ghost use Rattle.hb_eval.specs.Methods as methods;
+ghost use Rattle.hb_eval.specs.Machine.{method_named};
+ghost use Rattle.hb_eval.specs.Steps.{AreKnown, HasNoFrame, IsFed, IsFine, IsPlain, Keeps, SameCalls, Steady, weigh_push};
+ghost use Rattle.hb_eval.specs.Tables.{ActsOn};
+ghost use Rattle.hb_eval.specs.Staying.{Stays};
+ghost use Rattle.hb_eval.specs.Naming.{IsNamed, StopsNamed};
+
+use crate::methods::{declare, define};
+use crate::moves::halt;
+use crate::spelling::is_name;
+use crate::state::{Move, State};
+use crate::stop::Stop;
+use crate::value::Value;
+use hb_names::Names;
+use hb_tables::desk::Desk;
+use hb_tables::entry::BODIES_MAX;
+use hb_tree::limits::TYPES_MAX;
+use hb_tree::node::{Method, Node};
+use hb_tree::program::Program;
+use hb_types::ids::{BodySite, ClassId, NameId, NodeId, TypeSite};
+use std::alloc::{AllocError, Global};
+use std::mem;
+
+/// The site of a `def`, which is below the greatest number.
+#[inline(always)]
+pub(crate) fn known_body(prog: &Program, site: BodySite) -> BodySite
+    requires { site.0 < length prog.now.bodies }
+    ensures same { result ≡ site }
+    ensures few { result.0 < BODIES_MAX }
+{
+    let _count = prog.bodies();
+    site
+}
+
+/// The site of a `type`, which is below the greatest number.
+#[inline(always)]
+pub(crate) fn known_type(prog: &Program, site: TypeSite) -> TypeSite
+    requires { site.0 < length prog.now.types }
+    ensures same { result ≡ site }
+    ensures few { result.0 < TYPES_MAX }
+{
+    let _count = prog.types();
+    site
+}
+
+/// A `def` with a plain name begins.
+#[inline(never)]
+pub(crate) fn begin_define<D: Desk, N: Names>(
+    alloc: Global,
+    prog: &Program,
+    desk: &mut D,
+    names: &mut N,
+    class: ClassId,
+    name: NameId,
+    site: BodySite,
+    state: &mut State,
+) -> Result<Move, AllocError>
+    requires name { name.0 < length prog.now.names }
+    requires site { site.0 < BODIES_MAX }
+    requires few { state.old.begun < 2 ^ 63 }
+    ensures acts { IfOk result (λ m. ActsOn (N.known names.new) (D.fixed desk.old).caller (D.front desk.old) (D.front desk.new)
+        (λ w s. meaning.begin state.old.at.0 s (λ s. methods.define w.names state.old.at.0 (class.0, bytes_at prog.now.names name.0) site.0 s)) state.old state.new m) }
+    ensures keeps { (t : Table) → IfOk result (Keeps t None state.old state.new) }
+    ensures known { (t : Table) → AreKnown t state.old → OnOk result (AreKnown t state.new) }
+    ensures plain { IfOk result (λ m. IsPlain m.under × IsPlain m.push) }
+    ensures begun { state.new.begun ≡ state.old.begun + 1 }
+    ensures fuel { IfOk result (λ m. IsFed m.stops state.old.fuel state.new.fuel) }
+    ensures calls { SameCalls state.old state.new }
+    ensures stays { Stays (D.fixed desk.old) (D.fixed desk.new) (D.front desk.old) (D.front desk.new) (N.known names.old) (N.known names.new) }
+    ensures others { (q : ℕ) → stands (D.fixed desk.old).caller q (D.front desk.new) ≡ stands (D.fixed desk.old).caller q (D.front desk.old) }
+    ensures grown { (t : Table) → OnOk result (Grown t (D.fixed desk.old).caller (N.known names.new) (N.asked names.old) (N.asked names.new) (D.front desk.old) (D.front desk.new)) }
+    ensures alike { N.alike names.old names.new }
+{
+    let id = state.at;
+    state.begun += 1;
+    if state.fuel == 0 {
+        return Ok(halt(state, Stop::Steps, id));
+    }
+    state.fuel -= 1;
+    define(alloc, desk, names, id, class, prog.name(name), site, state)
+}
+
+/// A `type` or a `type?` with a plain name begins.
+#[inline(never)]
+pub(crate) fn begin_declare<D: Desk, N: Names>(
+    alloc: Global,
+    prog: &Program,
+    desk: &mut D,
+    names: &mut N,
+    class: ClassId,
+    name: NameId,
+    site: TypeSite,
+    asks: bool,
+    state: &mut State,
+) -> Result<Move, AllocError>
+    requires name { name.0 < length prog.now.names }
+    requires site { site.0 < TYPES_MAX }
+    requires few { state.old.begun < 2 ^ 63 }
+    ensures acts { IfOk result (λ m. ActsOn (N.known names.new) (D.fixed desk.old).caller (D.front desk.old) (D.front desk.new)
+        (λ w s. meaning.begin state.old.at.0 s (λ s. methods.declare w.names state.old.at.0 asks (class.0, bytes_at prog.now.names name.0) site.0 s)) state.old state.new m) }
+    ensures keeps { (t : Table) → IfOk result (Keeps t None state.old state.new) }
+    ensures known { (t : Table) → AreKnown t state.old → OnOk result (AreKnown t state.new) }
+    ensures plain { IfOk result (λ m. IsPlain m.under × IsPlain m.push) }
+    ensures begun { state.new.begun ≡ state.old.begun + 1 }
+    ensures fuel { IfOk result (λ m. IsFed m.stops state.old.fuel state.new.fuel) }
+    ensures calls { SameCalls state.old state.new }
+    ensures stays { Stays (D.fixed desk.old) (D.fixed desk.new) (D.front desk.old) (D.front desk.new) (N.known names.old) (N.known names.new) }
+    ensures others { (q : ℕ) → stands (D.fixed desk.old).caller q (D.front desk.new) ≡ stands (D.fixed desk.old).caller q (D.front desk.old) }
+    ensures grown { (t : Table) → OnOk result (Grown t (D.fixed desk.old).caller (N.known names.new) (N.asked names.old) (N.asked names.new) (D.front desk.old) (D.front desk.new)) }
+    ensures alike { N.alike names.old names.new }
+{
+    let id = state.at;
+    state.begun += 1;
+    if state.fuel == 0 {
+        return Ok(halt(state, Stop::Steps, id));
+    }
+    state.fuel -= 1;
+    declare(
+        alloc,
+        desk,
+        names,
+        id,
+        class,
+        prog.name(name),
+        site,
+        asks,
+        state,
+    )
+}
+
+// The bytes of a value that is the name of a method.
+fn name_in(value: &Value) -> Result<&[u8], Stop>
+    ensures { MatchResult result (λ bytes. IsNamed value.now bytes.now) (λ stop. StopsNamed value.now stop) }
+{
+    match value {
+        Value::Str(text) => {
+            if is_name(text.bytes()) {
+                Ok(text.bytes())
+            } else {
+                Err(Stop::BadName)
+            }
+        }
+        Value::Nil => Err(Stop::NilValue),
+        _ => Err(Stop::BadOperand),
+    }
+}
+
+/// The computed name of a method is there.
+#[inline(never)]
+pub(crate) fn method<D: Desk, N: Names>(
+    alloc: Global,
+    prog: &Program,
+    desk: &mut D,
+    names: &mut N,
+    id: NodeId,
+    state: &mut State,
+) -> Result<Move, AllocError>
+    requires fine { IsFine prog.now (cont.Method id) }
+    ensures acts { IfOk result (λ m. ActsOn (N.known names.new) (D.fixed desk.old).caller (D.front desk.old) (D.front desk.new)
+        (λ w s. method_named w (tree_at prog.now id.0) state.old.acc s) state.old state.new m) }
+    ensures keeps { (t : Table) → IfOk result (Keeps t None state.old state.new) }
+    ensures known { (t : Table) → AreKnown t state.old → OnOk result (AreKnown t state.new) }
+    ensures plain { IfOk result (λ m. IsPlain m.under × IsPlain m.push) }
+    ensures light { IfOk result (λ m. weigh_push m.under < 1) }
+    ensures steady { Steady state.old state.new }
+    ensures stays { Stays (D.fixed desk.old) (D.fixed desk.new) (D.front desk.old) (D.front desk.new) (N.known names.old) (N.known names.new) }
+    ensures others { (q : ℕ) → stands (D.fixed desk.old).caller q (D.front desk.new) ≡ stands (D.fixed desk.old).caller q (D.front desk.old) }
+    ensures grown { (t : Table) → OnOk result (Grown t (D.fixed desk.old).caller (N.known names.new) (N.asked names.old) (N.asked names.new) (D.front desk.old) (D.front desk.new)) }
+    ensures alike { N.alike names.old names.new }
+{
+    let value = mem::replace(&mut state.acc, Value::Nil);
+    match name_in(&value) {
+        Err(stop) => Ok(halt(state, stop, id)),
+        Ok(name) => match prog.node(id) {
+            Node::Def(Method::Computed(class, _), site) => {
+                let site = known_body(prog, site);
+                define(alloc, desk, names, id, class, name, site, state)
+            }
+            Node::Declare(Method::Computed(class, _), site, asks) => {
+                let site = known_type(prog, site);
+                declare(alloc, desk, names, id, class, name, site, asks, state)
+            }
+            _ => unreachable!(),
+        },
+    }
+}
