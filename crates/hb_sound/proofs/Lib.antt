@@ -1,0 +1,11 @@
+pub mod ValueLemmas
+pub mod SoundLemmas
+pub mod ReadLemmas
+pub mod RowLemmas
+pub mod LiveLemmas
+pub mod CallLemmas
+pub mod ScriptLemmas
+pub mod NodeLemmas
+pub mod PartLemmas
+pub mod LawLemmas
+pub mod Examples

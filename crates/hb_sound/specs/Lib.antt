@@ -1,0 +1,5 @@
+pub mod Sound
+pub mod Frames
+pub mod Bodies
+pub mod Scripts
+pub mod Parts
