@@ -1,12 +1,3 @@
 pub mod FaultLemmas
-pub mod FirstLemmas
-pub mod Rows
 pub mod RunLemmas
-pub mod TypeLemmas
-pub mod WalkLemmas
-pub mod NameLemmas
-pub mod SaidLemmas
-pub mod KnownLemmas
-pub mod StepLemmas
-pub mod CallLemmas
 pub mod OneDueLemmas

@@ -1,6 +1,7 @@
 -- What reading a text to its end says of what is due.
 use Rattle.std.proofs.Common.{◌≡◌, ◌≢◌, ◌∙◌, ◌≤◌, ◌<◌, ◌+◌, ◌⊎◌, inl, inr, ℕ, List, [], ◌∷◌, ◌++◌, Some, None, Ok, Err, refl, sym, ap, subst, length, length-append, arith, append-nil, rules, Bool, true, false}
 use Rattle.std.specs.Prelude.{IfOk, IsNone, if◌then◌else◌}
+use Rattle.std.specs.List.{list_all}
 use Rattle.std.specs.Io.KnownBytes.{Keeps}
 use Rattle.std.specs.declared.option.Option.{Option}
 use Rattle.std.specs.declared.result.Result.{Result}
@@ -11,47 +12,42 @@ use Rattle.hb_lex.specs.declared.spans.Token.{Token}
 use Rattle.hb_lex.specs.Text.{HasFault, HasTokens}
 use Rattle.hb_build.specs.declared.faults.ParseFail.{ParseFail}
 use Rattle.hb_build.specs.declared.faults.ParseFail.TheVariants as parse
-use Rattle.hb_build.specs.Said.{Said}
-use Rattle.hb_parse.specs.Text.{IsFault, Says}
-use Rattle.hbird.specs.Items.{Item, Typed, Defined, Printed, Place}
-use Rattle.hbird.specs.Answers.{Answers, CameTo, Ends, IsDueFor, IsFaulty, IsReadAs, IsRunOf, IsRunOutcome, IsWhole, Reads, reported}
+use Rattle.hb_tree.specs.Table.{Table}
+use Rattle.hb_tree.specs.Program.{IsProgram}
+use Rattle.hb_parse.specs.Text.{IsFault, IsProgramOf}
+use Rattle.hb_eval.specs.Told.{Told, is_done}
+use Rattle.hbird.specs.Answers.{Answers, CameTo, Ends, IsDueFor, IsFaulty, IsReadAs, IsRunOf, IsRunOutcome, IsWhole, Reads}
 use Rattle.hbird.specs.Faults.{Fault, IsFirstFault, fault_line, lex_fault, parse_fault}
-use Rattle.hbird.specs.Outcomes.{IsDue, IsRefused, Outcome, faulty, status_of, too_long}
-use Rattle.hbird.specs.First.{is_first}
-use Rattle.hbird.specs.Report.{IsReport, Report, Run, after_call, not_yet, report, report_from, report_of, start, script_line}
-use Rattle.hbird.specs.Script.{script_items, script_name}
-use Rattle.hbird.specs.Verdict.{given}
+use Rattle.hbird.specs.Outcomes.{IsDue, IsDueBy, IsRefused, Outcome, faulty, status_of, too_long}
+use Rattle.hb_names.specs.Names.{Name}
+use Rattle.hb_tables.specs.declared.entry.Entry.{Entry}
+use Rattle.hb_tables.specs.declared.entry.TheConstants.{VERSIONS_MAX}
+use Rattle.hb_run.specs.Headline.{KeepsPromise}
+use Rattle.hb_run.specs.History.{IsHistory}
+use Rattle.hb_report.specs.Report.{report_of}
+use Rattle.hbird.specs.Reports.{ComesTo, IsReported, ending_of, is_alone, reported}
 use Rattle.hbird.specs.declared.due.Due.{Due}
 use Rattle.hbird.specs.declared.due.Ending.{Ending}
 use Rattle.hbird.specs.declared.jobs.Job.{Job}
 use Rattle.hbird.specs.declared.jobs.Job.TheVariants as jobs
 use Rattle.hbird.specs.declared.due.Ending.TheVariants.{Done, Stopped, TextRefused, WordsRefused}
-use Rattle.hbird.specs.declared.top.TheConstants.{LIMIT}
+use Rattle.hbird.specs.declared.top.TheConstants.{LIMIT, STEPS}
 
 -- a report never ends as refused words do
-after_call-no_refusal : (run : Run) (place : Place) (value : Option (List ℕ)) (go_on : Run → Report)
-    → ((next : Run) → (go_on next).ending ≢ WordsRefused) → (after_call run place value go_on).ending ≢ WordsRefused
-after_call-no_refusal run place None go_on h = λ e. cc
-after_call-no_refusal run place (Some value) go_on h = h _
-
-report_from-no_refusal : (run : Run) (items : List Item) → (report_from run items).ending ≢ WordsRefused
-report_from-no_refusal run [] = λ e. cc
-report_from-no_refusal run (Typed name params result ∷ items) = report_from-no_refusal _ items
-report_from-no_refusal run (Defined name params parts ∷ items) = report_from-no_refusal _ items
-report_from-no_refusal run (Printed name args place ∷ items) =
-    after_call-no_refusal run place (given run.types run.defs name args) (λ next. report_from next items)
-    (λ next. report_from-no_refusal next items)
-
-report_of-no_refusal : (said : Said) → (report_of said).ending ≢ WordsRefused
-report_of-no_refusal said = go (is_first said)
+ending-no_refusal : (runs : List Told) → ending_of runs ≢ WordsRefused
+ending-no_refusal runs = go (list_all (λ r. is_done r.outcome) runs)
   where
-    go : (b : Bool) → (if b then report (script_name said) (script_items said) else not_yet).ending ≢ WordsRefused
-    go true = report_from-no_refusal (start (script_line (script_name said))) (script_items said)
+    go : (b : Bool) → (if b then Done else Stopped) ≢ WordsRefused
+    go true = λ e. cc
     go false = λ e. cc
+
+comes-no_refusal : (t : Table) (alone : Bool) (len : ℕ) (o : Outcome) → ComesTo t alone len o → o.ending ≢ WordsRefused
+comes-no_refusal t true len o h = λ e. ending-no_refusal h.runs (sym (ap (λ (x : Outcome). x.ending) h.same) ∙ e)
+comes-no_refusal t false len o h = λ e. let same : o.ending ≡ TextRefused = ap (λ (x : Outcome). x.ending) h in cc
 
 read-no_refusal : (text : List ℕ) (o : Outcome) → IsReadAs text o → o.ending ≢ WordsRefused
 read-no_refusal text o (inl h) = λ e. let same : o.ending ≡ TextRefused = ap (λ (x : Outcome). x.ending) h.same in cc
-read-no_refusal text o (inr h) = λ e. report_of-no_refusal h.said (sym (ap (λ (x : Outcome). x.ending) h.same) ∙ e)
+read-no_refusal text o (inr h) = comes-no_refusal h.program (is_alone h.program) (length text) o h.comes
 
 pub run-all : (a b : Option (List ℕ)) (text : List ℕ) (o : Outcome) → TakesAll a b LIMIT text → IsReadAs text o → IsRunOutcome a o
 run-all None b text o h due = read-no_refusal text o due
@@ -77,14 +73,13 @@ run-past (Some x) (Some y) (bytes, taken, size) =
     inl (omega (arith, long, size), refl)
 
 -- what is due for a text that is a program, and for one that has a fault
-pub text-whole : {E : Type 0} (text : List ℕ) (tokens : List Token) (said : Said) (r : Result Due E) → HasTokens text tokens → Says text tokens said
-    → IfOk r (λ due. IsReport due (report_of said))
+pub text-whole : {E : Type 0} (text : List ℕ) (tokens : List Token) (t : Table) (r : Result Due E) → HasTokens text tokens → IsProgramOf text tokens t → IsProgram t
+    → IfOk r (λ due. IsDueBy (ComesTo t (is_alone t) (length text)) (length text) due)
     → IfOk r (λ due. (o : Outcome) × IsReadAs text o × IsDue due o.ending o.text × (o.takes ≡ length text))
-text-whole text tokens said (Err e) read says is = tt
-text-whole text tokens said (Ok due) read says is =
-    let whole : IsWhole text (reported (report_of said) (length text)) =
-    record { tokens = tokens; read = read; said = said; says = says; same = refl } in
-    (reported (report_of said) (length text), inr whole, is, refl)
+text-whole text tokens t (Err e) read says is comes = tt
+text-whole text tokens t (Ok due) read says is (o, comes, due_is, takes) =
+    let whole : IsWhole text o = record { tokens = tokens; read = read; program = t; says = says; is = is; comes = comes } in
+    (o, inr whole, due_is, takes)
 
 text-faulty : (text : List ℕ) (fault : Fault) (due : Due) → IsFirstFault text fault → IsDue due TextRefused (fault_line text fault)
     → (o : Outcome) × IsReadAs text o × IsDue due o.ending o.text × (o.takes ≡ length text)
@@ -158,3 +153,10 @@ answers-came asked job old new o answer same due_asked came kept read write =
     unread : (j : Option Job) → (IsNone j → Keeps old.left new.left) → (Reads j → ⊥) → Keeps old.left new.left
     unread None keeps none = keeps (search rules)
     unread (Some jobs.Run) keeps none = absurd (none tt)
+
+-- the report of these runs
+pub due-reported : (t : Table) (len : ℕ) (names : List Name) (log : List Entry) (runs : List Told) (ending : Ending) (text : List ℕ)
+    → IsHistory t VERSIONS_MAX STEPS names log runs → KeepsPromise t names log runs → ending ≡ ending_of runs → text ≡ report_of t runs
+    → (o : Outcome) × IsReported t len o × (ending ≡ o.ending) × (text ≡ o.text) × (o.takes ≡ len)
+due-reported t len names log runs ending text history promise e f =
+    (reported t runs len, record { names = names; log = log; runs = runs; history = history; promise = promise; same = refl }, e, f, refl)

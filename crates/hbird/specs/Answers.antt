@@ -5,12 +5,13 @@ use Rattle.hb_io.specs.Causes.{Rose}
 use Rattle.hb_io.specs.Moves.{AppendsFront, TakesCount}
 use Rattle.hb_lex.specs.declared.spans.Token.{Token}
 use Rattle.hb_lex.specs.Text.{HasTokens}
-use Rattle.hb_build.specs.Said.{Said}
-use Rattle.hb_parse.specs.Text.{Says}
+use Rattle.hb_tree.specs.Table.{Table}
+use Rattle.hb_tree.specs.Program.{IsProgram}
+use Rattle.hb_parse.specs.Text.{IsProgramOf}
 use Rattle.hbird.specs.Faults.{Fault, IsFirstFault, fault_line}
 use Rattle.hbird.specs.Outcomes.{Outcome, faulty, status_of, too_long, words_refused}
-use Rattle.hbird.specs.Report.{Report, report_of}
-use Rattle.hbird.specs.declared.due.Ending.TheVariants.{WordsRefused}
+use Rattle.hbird.specs.Reports.{ComesTo, is_alone}
+use Rattle.hbird.specs.declared.due.Ending.TheVariants.{TextRefused, WordsRefused}
 use Rattle.hbird.specs.declared.jobs.Job.{Job}
 use Rattle.hbird.specs.declared.jobs.Job.TheVariants.{Run}
 use Rattle.hbird.specs.declared.top.TheConstants.{LIMIT}
@@ -28,17 +29,14 @@ pub record IsFaulty (text : List ℕ) (o : Outcome) : Type 0 where
   pub first : IsFirstFault text fault
   pub same : o ≡ faulty (fault_line text fault) (length text)
 
--- the report is due, and all of a text of this length was taken
-abbrev pub reported : Report → ℕ → Outcome
-reported r len = record { ending = r.ending; text = r.text; takes = len }
-
--- the text is a program, whose report is due
+-- the text is a program, and this is what it comes to
 pub record IsWhole (text : List ℕ) (o : Outcome) : Type 0 where
   pub tokens : List Token
   pub read : HasTokens text tokens
-  pub said : Said
-  pub says : Says text tokens said
-  pub same : o ≡ reported (report_of said) (length text)
+  pub program : Table
+  pub says : IsProgramOf text tokens program
+  pub is : IsProgram program
+  pub comes : ComesTo program (is_alone program) (length text) o
 
 -- a text within the limit has a fault, or is a program
 abbrev pub IsReadAs : List ℕ → Outcome → Type 0
@@ -47,6 +45,10 @@ IsReadAs text o = IsFaulty text o ⊎ IsWhole text o
 -- the text is too long, or it is read
 abbrev pub IsRunOf : List ℕ → Outcome → Type 0
 IsRunOf text o = ((LIMIT < length text) × (o ≡ too_long LIMIT)) ⊎ ((length text ≤ LIMIT) × IsReadAs text o)
+
+-- a refused text has no other outcome
+abbrev pub IsOne : Outcome → Outcome → Type 0
+IsOne a b = a.ending ≡ TextRefused → a ≡ b
 
 -- an outcome of a run: that of the bytes where the source tells them, and never that of refused words
 abbrev pub IsRunOutcome : Option (List ℕ) → Outcome → Type 0

@@ -39,6 +39,10 @@ pub record IsDue (due : Due) (how : Ending) (lines : List ℕ) : Type 0 where
   pub ending : due.ending ≡ how
   pub text : due.text.items ≡ lines
 
+-- the code's value is an outcome of this kind, which takes so many bytes
+abbrev pub IsDueBy : (Outcome → Type 0) → ℕ → Due → Type 0
+IsDueBy Is len due = (o : Outcome) × Is o × IsDue due o.ending o.text × (o.takes ≡ len)
+
 -- the code's value tells the fault; where there is none, nothing is due
 abbrev pub IsRefused : Due → List ℕ → Option Fault → Type 0
 IsRefused due text None = ⊥

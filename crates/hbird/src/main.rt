@@ -1,16 +1,9 @@
 //! Runs a program's text from standard input, and writes the report to standard output.
 #![tactic(auto)]
 
-mod call;
 mod due;
 mod faults;
-mod first;
 mod jobs;
-mod judge;
-mod methods;
-mod parts;
-mod report;
-mod run;
 mod top;
 
 use hb_io::{RealSink, RealSource};

@@ -1,30 +1,37 @@
 //! The top call: all that the program does, over any source and sink.
 
-ghost use Rattle.std.specs.Prelude.{◌≡◌, ◌≤◌, ℕ, List, Err, IfOk, IsNone, OnErr, length, map};
+ghost use Rattle.std.specs.Prelude.{◌≡◌, ◌≤◌, ℕ, List, Err, IfOk, IsNone, OnErr, length, map, true};
 ghost use Rattle.std.specs.Io.KnownBytes.{Keeps};
 ghost use Rattle.std.specs.Option.{option_map};
+ghost use Rattle.hb_eval.specs.Told.{told_by};
 ghost use Rattle.hb_io.specs.Causes.{Rose};
 ghost use Rattle.hb_io.specs.Moves.{TakesCount};
-ghost use Rattle.hb_build.specs.Said.{said_in};
-ghost use Rattle.hbird.specs.Answers.{Answers, Ends, IsDueFor, IsReadAs, IsRunOf, IsRunOutcome, Reads};
+ghost use Rattle.hb_tree.specs.Program.{IsProgram};
+ghost use Rattle.hbird.specs.Answers.{Answers, Ends, IsDueFor, IsOne, IsReadAs, IsRunOf, IsRunOutcome, Reads};
 ghost use Rattle.hbird.specs.Faults.{fault_line};
 ghost use Rattle.hbird.specs.Jobs.{job_of};
-ghost use Rattle.hbird.specs.Outcomes.{IsDue, IsRefused, Outcome, fault_of};
-ghost use Rattle.hbird.specs.Report.{IsReport, report_of};
+ghost use Rattle.hbird.specs.Outcomes.{IsDue, IsDueBy, IsRefused, Outcome, fault_of};
+ghost use Rattle.hbird.specs.Reports.{ComesTo, IsReported, ending_of, is_alone};
 
 use crate::due::{Due, Ending, Stop};
 use crate::faults::{Fault, fault_line, lex_fault, parse_fault};
-use crate::first::is_first;
 use crate::jobs::{Job, job_asked};
-use crate::run::report;
+use hb_eval::script_run::ScriptRun;
 use hb_io::{ReadFail, Sink, Source, read_all, write_all_of};
 use hb_lex::lex;
 use hb_parse::parse;
+use hb_report::{all_done, report};
+use hb_run::laws::histories_keep_the_promise;
+use hb_run::run_alone;
+use hb_tables::entry::VERSIONS_MAX;
 use hb_tree::program::Program;
 use std::alloc::Global;
 
 /// The bytes of a text, at most.
 pub const LIMIT: u32 = 1_048_576;
+
+/// The steps of a script, at most.
+pub const STEPS: u32 = 1_000_000;
 
 const MEMORY: u8 = 3;
 
@@ -45,15 +52,50 @@ fn refused(alloc: Global, text: &[u8], fault: Option<Fault>) -> Result<Due, Stop
     Ok(Due::new(alloc, Ending::TextRefused, &line)?)
 }
 
-// The report of a program, or that it has another form than the first.
-fn run_whole(alloc: Global, program: &Program) -> Result<Due, Stop>
-    ensures due { IfOk result (λ due. IsReport due (report_of (said_in program.now))) }
+// Whether the program has no setup, and at most one script.
+fn is_alone(program: &Program) -> bool
+    ensures { result ≡ is_alone program.now }
+{
+    program.setup().is_none() && program.scripts() <= 1
+}
+
+// The report of the runs of a program that is alone.
+fn run_program(alloc: Global, program: &Program) -> Result<Due, Stop>
+    requires { is_alone program.now ≡ true }
+    ensures due { (len : ℕ) → IfOk result (λ due. IsDueBy (IsReported program.now len) len due) }
     ensures memory { OnErr result (result ≡ Err Stop.Memory) }
 {
-    if !is_first(alloc, program)? {
-        return Ok(Due::new(alloc, Ending::TextRefused, "text NotYet\n")?);
+    histories_keep_the_promise();
+    let runs = run_alone(alloc, program, STEPS, VERSIONS_MAX)?;
+    let ending = ending(&runs);
+    let text = report(alloc, program, &runs)?;
+    Ok(Due { ending, text })
+}
+
+// The report of a program's runs, or that it has a setup or more than one script.
+fn run_whole(alloc: Global, program: &Program) -> Result<Due, Stop>
+    ensures is { IsProgram program.now }
+    ensures due { (len : ℕ) → IfOk result (λ due. IsDueBy (ComesTo program.now (is_alone program.now) len) len due) }
+    ensures memory { OnErr result (result ≡ Err Stop.Memory) }
+{
+    // Its count tells that it is a program.
+    let _nodes = program.nodes();
+    if is_alone(program) {
+        run_program(alloc, program)
+    } else {
+        Ok(Due::new(alloc, Ending::TextRefused, "text NotYet\n")?)
     }
-    Ok(report(alloc, program)?)
+}
+
+// Done, where each run is.
+fn ending(runs: &[ScriptRun]) -> Ending
+    ensures { result ≡ ending_of (map told_by runs.now) }
+{
+    if all_done(runs) {
+        Ending::Done
+    } else {
+        Ending::Stopped
+    }
 }
 
 // What a text within the limit comes to.
@@ -104,9 +146,9 @@ fn due_for<S: Source>(alloc: Global, job: Option<Job>, source: &mut S) -> Result
     }
 }
 
-/// What is due for a text is one: no two outcomes.
+/// A text that is refused has one outcome.
 pub fn one_due()
-    ensures { (text : List ℕ) (a b : Outcome) → IsRunOf text a → IsRunOf text b → a ≡ b }
+    ensures { (text : List ℕ) (a b : Outcome) → IsRunOf text a → IsRunOf text b → IsOne a b }
 {
     hb_lex::one_answer();
     hb_parse::one_answer();
@@ -118,7 +160,7 @@ pub fn one_due()
 /// 0 and 6 say that the text was run to its end or stopped, 1 that it was refused, 2 that the words
 /// were, 3 that memory ran out, 4 that the source failed and 5 that the sink did.
 pub fn hbird<S: Source, K: Sink>(alloc: Global, words: &[&str], source: &mut S, out: &mut K) -> u8
-    ensures one_due { (text : List ℕ) (a b : Outcome) → IsRunOf text a → IsRunOf text b → a ≡ b }
+    ensures one_due { (text : List ℕ) (a b : Outcome) → IsRunOf text a → IsRunOf text b → IsOne a b }
     ensures answers { let old : Ends = record {
       left = S.left source.old;
       read_faults = S.faults source.old;

@@ -7,7 +7,7 @@ returns-in-Err-clause-due c =
 
 pub returns-in-Ok-parse-clause-due : goal.returns-in-Ok-parse-clause-due
 returns-in-Ok-parse-clause-due c =
-    text-whole c.args.text.now _ _ c.run_whole.result c.in-Ok.ensures.tokens c.in-Ok-parse.ensures c.run_whole.ensures.due
+    text-whole c.args.text.now _ _ c.run_whole.result c.in-Ok.ensures.tokens c.in-Ok-parse.ensures c.run_whole.ensures.is (c.run_whole.ensures.due _)
 
 pub returns-clause-due : goal.returns-clause-due
 returns-clause-due c =
