@@ -4,7 +4,6 @@ use Rattle.hb_check.specs.declared.lookup.LookFail.TheVariants as look
 use Rattle.hb_check.specs.Asked.{Asked, Refusal, asked, refusal}
 use Rattle.hb_types.specs.declared.ids.ClassId.{ClassId}
 use Rattle.hb_types.specs.declared.ids.NameId.{NameId}
-use Rattle.hb_trials.specs.declared.declarations.Answer.{Answer}
 use Rattle.hb_trials.specs.declared.declarations.Declarations.{Declarations}
 
 abbrev pub answers_in : Declarations → List Asked

@@ -1,6 +1,7 @@
 //! Bodies of whole texts, checked.
 
 use crate::declarations::Declarations;
+use crate::texts::{TWO, UNLIKE, read};
 use hb_check::{Checked, check};
 use hb_deriv::ill::Reason;
 use hb_lex::lex;
@@ -34,13 +35,6 @@ fn checked(
         &mut table,
     );
     Ok((found.expect(rt, "an answer"), table))
-}
-
-// The program of a text.
-fn read(rt: &impl Abort, alloc: Global, text: &[u8]) -> Program {
-    assert!(rt; text.len() < 1_000_000);
-    let tokens = lex(alloc, text).expect(rt, "tokens");
-    parse(alloc, text, &tokens).expect(rt, "a program")
 }
 
 // The reason and the place of a fault, where there is one.
@@ -168,19 +162,6 @@ fn each_form_of_a_body_has_its_type_or_fault(rt: HostRuntime) -> Result<(), Fail
     Ok(())
 }
 
-/// Two methods, of which the second calls the first, whose type changes.
-const TWO: &[u8] = b"class A
-script main
-type A.g : () -> Int
-def A.g() 1 end
-type A.f : () -> Int
-def A.f() self.g end
-print A.new.f
-type A.g : () -> Str
-print A.new.f
-end
-";
-
 #[test]
 fn a_derivation_has_its_uses_and_steps(rt: HostRuntime) -> Result<(), Fail> {
     let prog = read(&rt, rt.alloc(), TWO);
@@ -205,15 +186,6 @@ fn a_derivation_has_its_uses_and_steps(rt: HostRuntime) -> Result<(), Fail> {
     assert_eq!(rt; fault_of(&prog, &found), Some((Reason::Result, (6, 18))));
     Ok(())
 }
-
-/// Branches of unlike types, joined to any.
-const UNLIKE: &[u8] = b"class A
-script main
-type A.f : (Bool) -> Int
-def A.f(c) x = if c then 1 else \"a\" end; x + 1 end
-print A.new.f(true)
-end
-";
 
 #[test]
 fn unlike_branches_are_of_any_type(rt: HostRuntime) -> Result<(), Fail> {

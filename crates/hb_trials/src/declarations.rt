@@ -1,6 +1,6 @@
 //! A lookup that answers from the declarations of a program.
 
-ghost use Rattle.std.specs.Prelude.{◌≡◌, ◌<◌, [], None, IfOk, IfSome};
+ghost use Rattle.std.specs.Prelude.{◌≡◌, ◌<◌, [], None, length, IfOk, IfSome};
 ghost use Rattle.hb_trials.specs.Declarations.{answers_in, refusal_in};
 
 use hb_check::lookup::{LookFail, Lookup};
@@ -15,6 +15,17 @@ use std::alloc::{AllocError, Global};
 pub struct Declared {
     pub class: ClassId,
     pub name: NameId,
+}
+
+/// The method that a `type` or a `type?` is about; none where its name is computed.
+pub fn method_of(prog: &Program, site: TypeSite) -> Option<Declared>
+    requires { site.0 < length prog.now.types }
+    ensures { IfSome result (λ method. method.name.0 < length prog.now.names) }
+{
+    match prog.node(prog.type_node(site)) {
+        Node::Declare(Method::Named(class, name), _, _) => Some(Declared { class, name }),
+        _ => None,
+    }
 }
 
 /// A question, and the answer to it.
@@ -41,11 +52,7 @@ impl Declarations {
     {
         let mut declared = Vec::new(alloc);
         for i in 0..count.min(prog.types()) {
-            let site = TypeSite(i as u16);
-            declared.push(match prog.node(prog.type_node(site)) {
-                Node::Declare(Method::Named(class, name), _, _) => Some(Declared { class, name }),
-                _ => None,
-            })?;
+            declared.push(method_of(prog, TypeSite(i as u16)))?;
         }
         Ok(Declarations {
             declared,

@@ -1,7 +1,14 @@
 //! Whole texts through the parts that stand on programs. It has the tests that need a reader of texts, which no part
-//! below the parser has, and a lookup for them.
+//! below the parser has, and for them a lookup and steps by hand at a desk.
 #![tactic(auto)]
 
 #[cfg(test)]
+mod calls;
+#[cfg(test)]
 mod checks;
 pub mod declarations;
+pub mod desks;
+#[cfg(test)]
+mod runs;
+#[cfg(test)]
+mod texts;
