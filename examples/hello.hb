@@ -1,3 +1,4 @@
+# A method gets a type, then a body, and is called.
 class A
 script main
 type A.hi : (Str) -> Str

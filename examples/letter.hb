@@ -1,4 +1,4 @@
-# A line goes on behind a mark that wants more.
+# A line goes on behind a mark that wants more, and a ; stands for a line feed.
 class Letter
 script post
 type Letter.line : (Str, Str, Str) -> Str

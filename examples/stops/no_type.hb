@@ -1,3 +1,4 @@
+# The type comes after the call, and that is too late. The def itself is no fault.
 class A
 script main
 def A.hi(x) "hi " ++ x end

@@ -1,4 +1,0 @@
-class A
-script main
-print if true then "yes" else "no" end
-end

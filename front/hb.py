@@ -1,0 +1,158 @@
+"""hb: runs hbird on files, and shows where and why a program stopped."""
+import difflib
+import json
+import os
+import subprocess
+import sys
+from pathlib import Path
+
+import pages
+import report
+import show
+
+HELP = """\
+hb runs programs of hbird from files, and shows where and why one stopped.
+
+  hb FILE..            runs each program; the file - is the standard input
+  hb --json FILE..     gives each report as a JSON object on a line of its own
+  hb explain [WORD]    explains a word of a report; without a word, lists all
+  hb help              this page
+
+Programs to try stand in examples/, and docs/LANGUAGE.md teaches the language.
+Other options, as --NAME=VALUE, are handed to hbird. The status is that of
+hbird, and of several files the first that is not 0. Colours come only on a
+terminal, and never where NO_COLOR is set. HBIRD names another program to run.
+
+Statuses
+"""
+
+STATUSES = [
+    (0, "each script ran to its end"),
+    (1, "the text is too long or no program, or of a form that does not run yet"),
+    (2, "the words ask for nothing"),
+    (3, "memory ran out"),
+    (4, "a read failed"),
+    (5, "a write failed"),
+    (6, "a script stopped"),
+    (7, "the process could not get its words"),
+    (70, "the program is not built and cannot be, or hb finds no Python"),
+]
+WRONG_WORDS, READ_FAILED, WRITE_FAILED, NOT_BUILT = 2, 4, 5, 70
+
+LAUNCHER = Path(__file__).resolve().parent.parent / "hbird"
+# The program reads at most one byte more than a text may have, so no more is read for it.
+MOST = 1048577
+
+
+def say(message):
+    print("hb: " + message, file=sys.stderr)
+
+
+def write(lines):
+    """Writes lines as they came: bytes that are no letters go out as they came in."""
+    sys.stdout.buffer.write("".join(line + "\n" for line in lines).encode("utf-8", "surrogateescape"))
+    sys.stdout.buffer.flush()
+
+
+def help_text():
+    return HELP.splitlines() + ["  %-4d %s" % row for row in STATUSES]
+
+
+def explain(word):
+    """Explains one word, or lists all where none is given."""
+    if not word:
+        write(pages.words())
+        return 0
+    found = pages.explained(word)
+    if not found:
+        near = difflib.get_close_matches(word.lower(), [known.lower() for known in pages.words()], 1)
+        likely = [known for known in pages.words() if known.lower() in near]
+        say("nothing is known of %s; %s" % (word, "is it %s?" % likely[0] if likely else "hb explain lists all words"))
+        return WRONG_WORDS
+    for number, section in enumerate(found):
+        write(([""] if number else []) + pages.as_text(section))
+    return 0
+
+
+def read(name):
+    """The text of a file, or None where it cannot be read, which is told."""
+    try:
+        if name == "-":
+            return sys.stdin.buffer.read(MOST)
+        with open(name, "rb") as file:
+            return file.read(MOST)
+    except OSError as error:
+        say("%s: %s" % (name, error.strerror))
+        return None
+
+
+def run(text, options):
+    """What the program writes on a text, and its status. What it says on standard error goes on to ours."""
+    program = os.environ.get("HBIRD") or str(LAUNCHER)
+    try:
+        done = subprocess.run([program, "run", *options], input=text, stdout=subprocess.PIPE)
+    except OSError as error:
+        say("%s: %s" % (program, error.strerror))
+        return b"", NOT_BUILT
+    if done.returncode < 0:
+        say("the program was ended by signal %d" % -done.returncode)
+        return done.stdout, 128 - done.returncode
+    return done.stdout, done.returncode
+
+
+def run_file(name, options, as_json, paint):
+    """Runs one file and shows the report. Gives the status."""
+    text = read(name)
+    out, status = (b"", READ_FAILED) if text is None else run(text, options)
+    lines = out.decode("utf-8", "surrogateescape").split("\n")
+    cut = lines.pop()
+    if as_json:
+        write([json.dumps(report.as_object(name, status, lines + [cut] * bool(cut)))])
+    elif text is not None:
+        write(row for line in lines for row in show.shown(line, name, text, paint))
+        # A last line without an end is not whole, and no line of a report.
+        sys.stdout.buffer.write(cut.encode("utf-8", "surrogateescape"))
+    return status
+
+
+def main(words):
+    if words[:1] in (["help"], ["--help"], ["-h"]):
+        write(help_text())
+        return 0
+    if words[:1] == ["explain"]:
+        return explain(" ".join(words[1:]))
+    ends = words.index("--") if "--" in words else len(words)
+    options = [word for word in words[:ends] if word.startswith("-") and word != "-"]
+    files = [word for word in words[:ends] if word not in options] + words[ends + 1:]
+    if not files:
+        say("no file is named; hb help tells what hb does")
+        return WRONG_WORDS
+    as_json = "--json" in options
+    paint = show.Paint(sys.stdout.isatty() and "NO_COLOR" not in os.environ)
+    status = 0
+    for number, name in enumerate(files):
+        if len(files) > 1 and not as_json:
+            write([""] * bool(number) + [paint("file", "==> %s <==" % name)])
+        ended = run_file(name, [option for option in options if option != "--json"], as_json, paint)
+        status = status or ended
+    return status
+
+
+def guarded(words):
+    """Runs main, and ends without a trace where the output cannot be written or the user breaks off."""
+    try:
+        status = main(words)
+        sys.stdout.flush()
+        return status
+    except KeyboardInterrupt:
+        return 130
+    except OSError as error:
+        if not isinstance(error, BrokenPipeError):
+            say("the output cannot be written: %s" % error.strerror)
+        # What is still to be written has nowhere to go.
+        os.dup2(os.open(os.devnull, os.O_WRONLY), 1)
+        return WRITE_FAILED
+
+
+if __name__ == "__main__":
+    sys.exit(guarded(sys.argv[1:]))

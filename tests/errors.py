@@ -1,0 +1,76 @@
+"""Runs the programs of docs/ERRORS.md, and sees that it has a section for each word.
+
+    python3 tests/errors.py PATH_TO_HBIRD
+
+A section has a wrong program, the line that is printed, the mended program,
+and what that prints where it prints a little. In place of a program a command
+of the shell may stand, which writes it.
+"""
+import subprocess
+import sys
+
+from markdown import ROOT, sections
+
+WORDS = """TooLong NotYet BadByte OpenText BadEscape BigNumber LongName LongLiteral
+    UnknownClass TwiceClass TwiceScript TwiceParam TooDeep
+    NilValue BadOperand NoBody NoType BadArgs IllTyped Overflow LongText OutputFull Busy BadName Deep Full Worn Steps
+    Unbound NoSelf
+    Unbound NoType Receiver Count Argument Operand Loop Result""".split()
+WORDS += ["Expected " + word for word in "end then do ) expression name type classname ( . : -> new item".split()]
+WORDS += ["TooMany " + word for word in
+          "classes scripts nodes types body calls variables parameters arguments".split()]
+
+# No program within the limits of a run comes to these.
+WITHOUT_PROGRAM = ["Worn"]
+SHAPE = ["program", "text", "program"]
+
+
+def is_program(block):
+    return block.language in ("hbird", "sh")
+
+
+def run(program, block):
+    """What the program writes, as lines, and its status, on the text that a block has or makes."""
+    text = block.text.encode()
+    if block.language == "sh":
+        text = subprocess.run(["bash", "-c", block.text], stdout=subprocess.PIPE, check=True).stdout
+    done = subprocess.run([program, "run"], input=text, stdout=subprocess.PIPE)
+    return done.stdout.decode().splitlines(), done.returncode
+
+
+def wrongs(program, section):
+    """What is wrong with a section, each as one line."""
+    shape = ["program" if is_program(block) else block.language for block in section.blocks]
+    if shape not in (SHAPE, SHAPE + ["text"]):
+        yield "its blocks are: %s" % ", ".join(shape)
+        return
+    wrong, told, mended, *printed = section.blocks
+    line = told.text.rstrip("\n")
+    lines, status = run(program, wrong)
+    if line not in lines or status != (1 if line.startswith("text ") else 6):
+        yield "%r is due, and %r came with status %d" % (line, lines[-2:], status)
+    if " %s " % section.title not in line + " ":
+        yield "the line has another word"
+    lines, status = run(program, mended)
+    if status != 0:
+        yield "the mended program ends with %r and status %d" % (lines[-2:], status)
+    elif printed and [each for each in lines if each.startswith("> ")] != printed[0].text.splitlines():
+        yield "the mended program writes %r" % lines
+
+
+def main():
+    words = [section for section in sections(ROOT / "docs/ERRORS.md") if section.depth == 3]
+    told = [(section.title, message) for section in words
+            if section.blocks or section.title not in WITHOUT_PROGRAM
+            for message in wrongs(sys.argv[1], section)]
+    titles = [section.title for section in words]
+    if sorted(titles) != sorted(WORDS):
+        told.append(("the sections", "without one, or with one too many: %s" % sorted(set(titles) ^ set(WORDS))))
+    for title, message in told:
+        print("docs/ERRORS.md: %s: %s" % (title, message))
+    print("%d sections, %d wrong" % (len(words), len(told)))
+    return 1 if told else 0
+
+
+if __name__ == "__main__":
+    sys.exit(main())

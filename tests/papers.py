@@ -1,0 +1,102 @@
+"""Holds the documents to the files that they show, to one another, and to what they lead to.
+
+    python3 tests/papers.py [--write]
+
+A block of code whose fence names a file has that file's text. With --write
+each such block gets it; what was written is then read as a diff.
+"""
+import re
+import subprocess
+import sys
+
+from markdown import FENCE, ROOT, anchors, sections
+
+PAPERS = sorted([*ROOT.glob("*.md"), *ROOT.glob("*/*.md")])
+EDITORS = ["vim/syntax/hbird.vim", "emacs/hbird-mode.el", "vscode/syntaxes/hbird.tmLanguage.json"]
+
+
+def blocks_are_files(paper):
+    for section in sections(paper):
+        for block in section.blocks:
+            if block.file and not (ROOT / block.file).is_file():
+                yield "line %d: there is no file %s" % (block.number, block.file)
+            elif block.file and (ROOT / block.file).read_text() != block.text:
+                yield "line %d: the block is not the text of %s" % (block.number, block.file)
+
+
+def links_lead_somewhere(paper):
+    for section in sections(paper):
+        for link in re.findall(r"\]\(([^)]*)\)", "".join(section.lines)):
+            file, _, anchor = link.partition("#")
+            target = (paper.parent / file) if file else paper
+            if not re.match("https?:", link) and not target.exists():
+                yield "the link %s leads nowhere" % link
+            elif anchor and target.suffix == ".md" and anchor not in anchors(target):
+                yield "the link %s leads to no heading" % link
+
+
+def examples_are_listed(paper):
+    if paper == ROOT / "examples/README.md":
+        text = paper.read_text()
+        for file in sorted((ROOT / "examples").glob("**/*.hb")):
+            if "(%s)" % file.relative_to(ROOT / "examples") not in text:
+                yield "%s is not in the list" % file.name
+            if not file.read_text().startswith("# "):
+                yield "%s has no comment that says what to look at" % file.name
+
+
+def statuses():
+    """The three tables of statuses, each as a list of numbers and words."""
+    readme = re.findall(r"^\| (\d+) \| (.*) \|$", (ROOT / "README.md").read_text(), re.M)
+    page = re.findall(r'^\.TP\n\.B (\d+)\n(.*)$', (ROOT / "man/hbird.1").read_text(), re.M)
+    told = subprocess.run([ROOT / "hb", "help"], stdout=subprocess.PIPE, check=True).stdout.decode()
+    return {"README.md": readme, "man/hbird.1": page, "hb help": re.findall(r"^  (\d+) +(.*)$", told, re.M)}
+
+
+def tables_are_one():
+    tables = {where: [(number, words.replace("`", "")) for number, words in rows] for where, rows in statuses().items()}
+    for where, rows in tables.items():
+        if rows != tables["hb help"] or not rows:
+            yield "%s: the table of statuses is not that of hb help" % where
+
+
+def editors_know_all_words():
+    formats = (ROOT / "docs/FORMATS.md").read_text()
+    for kind in ("keyword", "type word"):
+        words = re.search(r"^\| %s \| `([^`]*)` \|$" % kind, formats, re.M).group(1).split()
+        for file in EDITORS:
+            text = (ROOT / "editors" / file).read_text()
+            for word in words:
+                if not re.search(r"(?<!\w)%s(?!\w)" % re.escape(word.rstrip("?")), text):
+                    yield "editors/%s: the %s %s is not there" % (file, kind, word)
+
+
+def write(paper):
+    """Gives each block that names a file that file's text."""
+    lines, kept, skips = paper.read_text().splitlines(keepends=True), [], False
+    for line in lines:
+        if not (skips and not line.startswith(FENCE)):
+            kept.append(line)
+        if line.startswith(FENCE):
+            file = line[len(FENCE):].strip().partition(" ")[2]
+            skips = bool(file)
+            kept.append((ROOT / file).read_text() if file else "")
+    paper.write_text("".join(kept))
+
+
+def main():
+    wrong = []
+    for paper in PAPERS:
+        if sys.argv[1:] == ["--write"]:
+            write(paper)
+        for rule in (blocks_are_files, links_lead_somewhere, examples_are_listed):
+            wrong += ["%s: %s" % (paper.relative_to(ROOT), message) for message in rule(paper)]
+    wrong += [*tables_are_one(), *editors_know_all_words()]
+    for message in wrong:
+        print(message)
+    print("%d papers, %d wrong" % (len(PAPERS), len(wrong)))
+    return 1 if wrong else 0
+
+
+if __name__ == "__main__":
+    sys.exit(main())
