@@ -15,6 +15,7 @@ use Rattle.hb_names.proofs.NameLemmas.{place-longer}
 use Rattle.hb_names.specs.declared.names.TheConstants.{NAMES_MAX}
 use Rattle.hb_tree.specs.declared.limits.TheConstants.{TYPES_MAX}
 use Rattle.hb_tables.specs.declared.entry.TheConstants.{HOLDS_MAX}
+use Rattle.hb_tables.specs.declared.desk.Held.{Held}
 use Rattle.hb_tables.specs.declared.entry.Entry.{Entry}
 use Rattle.hb_tables.specs.declared.entry.Act.TheVariants.{Hold}
 use Rattle.hb_tables.specs.Answers.{Fixed}
@@ -28,7 +29,7 @@ use Rattle.hb_tables.proofs.AddingLemmas.{held_after}
 use Rattle.hb_tables.proofs.StandingLemmas.{held_stands, count_last}
 use Rattle.hb_call.specs.declared.answers.Answer.{Answer}
 use Rattle.hb_call.specs.Held.{stands}
-use Rattle.hb_call.specs.Calling.{HasType, AreTrue, IsAmong, IsAskedFor, IsCalling, type_among}
+use Rattle.hb_call.specs.Calling.{Given, HasType, AreTrue, IsAmong, IsAskedFor, IsCalling, held_among}
 use Rattle.hb_call.proofs.RoomLemmas.{room_hold}
 use Rattle.hb_call.proofs.GrowthLemmas.{asked_on, whole_hold}
 use Rattle.hb_call.proofs.StayLemmas.{hold_finds, held_once, type_stays, answers_stay, acts_last}
@@ -37,7 +38,7 @@ true_named : (t : Table) (names known : List Name) (log : List Entry) (x : ℕ �
 true_named t names known log x [] longer h = tt
 true_named t names known log x (a ∷ answers) longer h = (place-longer names known (name_of t (a.class.0, a.name.0)) a.key.0 longer h.0, h.1, true_named t names known log x answers longer h.2)
 
-true_last : (t : Table) (names : List Name) (log : List Entry) (x : ℕ × ℕ) (answers : List Answer) (a : Answer) → place names (name_of t (a.class.0, a.name.0)) ≡ Some a.key.0 → HasType log x a.key.0 a.site → AreTrue t names log x answers → AreTrue t names log x (answers ++ a ∷ [])
+true_last : (t : Table) (names : List Name) (log : List Entry) (x : ℕ × ℕ) (answers : List Answer) (a : Answer) → place names (name_of t (a.class.0, a.name.0)) ≡ Some a.key.0 → HasType log x a.key.0 a.held → AreTrue t names log x answers → AreTrue t names log x (answers ++ a ∷ [])
 true_last t names log x [] a named typed h = (named, typed, tt)
 true_last t names log x (b ∷ answers) a named typed h = (h.0, h.1, true_last t names log x answers a named typed h.2)
 
@@ -50,21 +51,39 @@ among_last : (k : ℕ) (answers : List Answer) (a : Answer) → k ≡ a.key.0 �
 among_last k [] a e = inl e
 among_last k (b ∷ answers) a e = inr (among_last k answers a e)
 
--- an answer that is found is the key's type
-pub type_found : (t : Table) (names : List Name) (log : List Entry) (x : ℕ × ℕ) (answers : List Answer) (k : ℕ) (ty : Option TypeSite) → AreTrue t names log x answers → Some ty ≡ type_among answers k → HasType log x k ty
+-- an answer that is found tells of the key
+pub type_found : (t : Table) (names : List Name) (log : List Entry) (x : ℕ × ℕ) (answers : List Answer) (k : ℕ) (ty : Held) → AreTrue t names log x answers → Some ty ≡ held_among answers k → HasType log x k ty
 type_found t names log x [] k ty h e = absurd (none-some ty (sym e))
 type_found t names log x (a ∷ answers) k ty h e = go (nat_eq a.key.0 k) refl e (type_found t names log x answers k ty h.2)
   where
-    go : (b : Bool) → nat_eq a.key.0 k ≡ b → Some ty ≡ (if b then Some a.site else type_among answers k) → (Some ty ≡ type_among answers k → HasType log x k ty) → HasType log x k ty
-    go true is e rest = let s : ty ≡ a.site = cc in subst (λ (j : ℕ). HasType log x j ty) (eqb-true a.key.0 k is) (subst (λ (s : Option TypeSite). HasType log x a.key.0 s) (sym s) h.1)
+    go : (b : Bool) → nat_eq a.key.0 k ≡ b → Some ty ≡ (if b then Some a.held else held_among answers k) → (Some ty ≡ held_among answers k → HasType log x k ty) → HasType log x k ty
+    go true is e rest = let s : ty ≡ a.held = cc in subst (λ (j : ℕ). HasType log x j ty) (eqb-true a.key.0 k is) (subst (λ (s : Held). HasType log x a.key.0 s) (sym s) h.1)
     go false is e rest = rest e
 
-pub none_found : (answers : List Answer) (k : ℕ) → None ≡ type_among answers k → IsAmong k answers → ⊥
+-- what is found in the first of two parts is found in both
+pub among_first : (xs ys : List Answer) (k : ℕ) (held : Held) → Some held ≡ held_among xs k → held_among (xs ++ ys) k ≡ Some held
+among_first [] ys k held e = absurd (none-some held (sym e))
+among_first (a ∷ xs) ys k held e = go (nat_eq a.key.0 k) e (among_first xs ys k held)
+  where
+    go : (b : Bool) → Some held ≡ (if b then Some a.held else held_among xs k) → (Some held ≡ held_among xs k → held_among (xs ++ ys) k ≡ Some held) → (if b then Some a.held else held_among (xs ++ ys) k) ≡ Some held
+    go true e rest = sym e
+    go false e rest = rest e
+
+-- where the first part has nothing, the second decides
+pub among_later : (xs ys : List Answer) (k : ℕ) → None ≡ held_among xs k → held_among (xs ++ ys) k ≡ held_among ys k
+among_later [] ys k e = refl
+among_later (a ∷ xs) ys k e = go (nat_eq a.key.0 k) e (among_later xs ys k)
+  where
+    go : (b : Bool) → None ≡ (if b then Some a.held else held_among xs k) → (None ≡ held_among xs k → held_among (xs ++ ys) k ≡ held_among ys k) → (if b then Some a.held else held_among (xs ++ ys) k) ≡ held_among ys k
+    go true e rest = absurd (none-some a.held e)
+    go false e rest = rest e
+
+pub none_found : (answers : List Answer) (k : ℕ) → None ≡ held_among answers k → IsAmong k answers → ⊥
 none_found [] k e h = h
 none_found (a ∷ answers) k e h = go (nat_eq a.key.0 k) refl e h (none_found answers k)
   where
-    go : (b : Bool) → nat_eq a.key.0 k ≡ b → None ≡ (if b then Some a.site else type_among answers k) → (k ≡ a.key.0) ⊎ IsAmong k answers → (None ≡ type_among answers k → IsAmong k answers → ⊥) → ⊥
-    go true is e h rest = none-some a.site e
+    go : (b : Bool) → nat_eq a.key.0 k ≡ b → None ≡ (if b then Some a.held else held_among answers k) → (k ≡ a.key.0) ⊎ IsAmong k answers → (None ≡ held_among answers k → IsAmong k answers → ⊥) → ⊥
+    go true is e h rest = none-some a.held e
     go false is e (inl same) rest = let t = eq-eqb a.key.0 k (sym same) in cc
     go false is e (inr h) rest = rest e h
 
@@ -99,9 +118,9 @@ held_then c q key ty n old new k h one = go (eqb k key.0) refl
     go true e = inl (eqb-true k key.0 e)
     go false e = inr (let a = is ∙ ap (λ b. count_of k (stands c q.0 old) + cond b 1 0) e in let d = held_stands c q.0 k old in omega (arith, one, a, d))
 
-module _ (t : Table) (door : Fixed) (q : CallNo) (names asked : List Name) (log : List Entry) (key : KeyId) (own : Option TypeSite) (held : List KeyId) (answers : List Answer) (h : IsCalling t door q.0 names asked log key own held answers) where
+module _ (t : Table) (door : Fixed) (q : CallNo) (names asked : List Name) (log : List Entry) (key : KeyId) (own : Held) (held : List KeyId) (answers : List Answer) (h : IsCalling t door q.0 names asked log key own held answers) where
   -- a key that is neither the call's own nor among the answers is not held
-  pub not_held : (k : ℕ) → k ≢ key.0 → None ≡ type_among answers k → times (door.caller, q.0) (spot k log).calls ≡ 0
+  pub not_held : (k : ℕ) → k ≢ key.0 → None ≡ held_among answers k → times (door.caller, q.0) (spot k log).calls ≡ 0
   not_held k other none = go (times (door.caller, q.0) (spot k log).calls) refl ((sound door.limit log h.legal k).once (door.caller, q.0))
     where
       go : (n : ℕ) → times (door.caller, q.0) (spot k log).calls ≡ n → n ≤ 1 → n ≡ 0
@@ -112,7 +131,7 @@ module _ (t : Table) (door : Fixed) (q : CallNo) (names asked : List Name) (log 
   pub has_room : (k : ℕ) → times (door.caller, q.0) (spot k log).calls ≡ 0 → length (of_caller door.caller (spot k log).calls) < HOLDS_MAX
   has_room k none = let r = h.room k in omega (arith, r, none)
 
-  pub noted : (a : Answer) → place names (name_of t (a.class.0, a.name.0)) ≡ Some a.key.0 → HasType log (door.caller, q.0) a.key.0 a.site → IsCalling t door q.0 names asked log key own held (answers ++ a ∷ [])
+  pub noted : (a : Answer) → place names (name_of t (a.class.0, a.name.0)) ≡ Some a.key.0 → HasType log (door.caller, q.0) a.key.0 a.held → IsCalling t door q.0 names asked log key own held (answers ++ a ∷ [])
   noted a named typed = record {
     legal = h.legal;
     room = h.room;
@@ -138,27 +157,29 @@ module _ (t : Table) (door : Fixed) (q : CallNo) (names asked : List Name) (log 
     whole = h.whole;
   }
 
-  pub holding : (new : List Entry) (j : KeyId) (ty : Option TypeSite) (n : ℕ) (a : Answer) → Adds door.caller log new (Hold q j ty n) → IsLegal door.limit new → times (door.caller, q.0) (spot j.0 log).calls ≡ 0 → j.0 < NAMES_MAX
-      → IsAskedFor names asked j.0 → a.key ≡ j → a.site ≡ ty → place names (name_of t (a.class.0, a.name.0)) ≡ Some a.key.0 → IsCalling t door q.0 names asked new key own (held ++ j ∷ []) (answers ++ a ∷ [])
-  holding new j ty n a adds legal none low asks same site named =
+  pub holding : (new : List Entry) (j : KeyId) (found : Held) (a : Answer) → Adds door.caller log new (Hold q j found.ty found.changes) → IsLegal door.limit new → times (door.caller, q.0) (spot j.0 log).calls ≡ 0 → j.0 < NAMES_MAX
+      → IsAskedFor names asked j.0 → a.key ≡ j → a.held ≡ found → place names (name_of t (a.class.0, a.name.0)) ≡ Some a.key.0 → IsCalling t door q.0 names asked new key own (held ++ j ∷ []) (answers ++ a ∷ [])
+  holding new j found a adds legal none low asks same site named =
+      let ty = found.ty in let n = found.changes in
       let c = door.caller in
       let rest : List Entry = adds.0 ++ entry c (Hold q j ty n) ∷ [] in
       let is : log ++ rest ≡ new = sym (append_assoc log adds.0 (entry c (Hold q j ty n) ∷ [])) ∙ sym adds.1 in
       let legal2 : IsLegal door.limit (log ++ rest) = subst (IsLegal door.limit) (sym is) legal in
       let keeps : (k : ℕ) → KeepsHold q.0 k (acts c rest) = λ k. subst (KeepsHold q.0 k) (sym (acts_last c adds.0 (Hold q j ty n) adds.2)) (refl, tt) in
-      let typed : HasType new (c, q.0) j.0 ty = (held_after c log new q j ty n adds none, found_type new j ty n adds legal) in
+      let finds = hold_finds door.limit c q j ty n log new adds legal in let typed : HasType new (c, q.0) j.0 found = (held_after c log new q j ty n adds none, finds.0, finds.1) in
       record {
         legal = legal;
         room = room_hold c q j ty n log new adds h.room;
         holds = record { keys = hold_keys c q j ty n log new held adds h.holds.keys; once = held_once door.limit c q.0 new legal; below = below_last held j h.holds.below low };
         first = (h.first.0 ++ j ∷ [], ap (λ l. l ++ j ∷ []) h.first.1);
         own_is = subst (λ l. HasType l (c, q.0) key.0 own) is (type_stays door.limit c q.0 log rest legal2 key.0 (keeps key.0) own h.own_is);
-        answered = true_last t names new (c, q.0) answers a named (subst (λ (s : Option TypeSite). HasType new (c, q.0) a.key.0 s) (sym site) (subst (λ (k : KeyId). HasType new (c, q.0) k.0 ty) (sym same) typed))
+        answered = true_last t names new (c, q.0) answers a named (subst (λ (s : Held). HasType new (c, q.0) a.key.0 s) (sym site) (subst (λ (k : KeyId). HasType new (c, q.0) k.0 found) (sym same) typed))
             (subst (λ l. AreTrue t names l (c, q.0) answers) is (answers_stay t names names door.limit c q.0 log rest answers ([], append-nil names) legal2 keeps h.answered));
         only = λ k one. ⊎_elim (λ e. inr (among_last k answers a (e ∙ ap (λ (k : KeyId). k.0) (sym same)))) (λ o. ⊎_elim (λ e. inl e) (λ i. inr (among_more k answers a i)) (h.only k o)) (held_then c q j ty n log new k adds one);
         asked_for = λ k one. ⊎_elim (λ e. subst (IsAskedFor names asked) (sym e) asks) (λ o. h.asked_for k o) (held_then c q j ty n log new k adds one);
         whole = whole_hold c q j ty n log new adds;
       }
-    where
-      found_type : (new : List Entry) (j : KeyId) (ty : Option TypeSite) (n : ℕ) → Adds door.caller log new (Hold q j ty n) → IsLegal door.limit new → ty ≡ (spot j.0 new).ty
-      found_type new j ty n adds legal = hold_finds door.limit door.caller q j ty n log new adds legal
+
+-- the same call, as another one that is the same
+pub calling_as : (g h : Given) (names asked : List Name) (log : List Entry) (held : List KeyId) (answers : List Answer) → g ≡ h → IsCalling g.t g.door g.q.0 names asked log g.key g.own held answers → IsCalling h.t h.door h.q.0 names asked log h.key h.own held answers
+calling_as g h names asked log held answers same i = subst (λ (x : Given). IsCalling x.t x.door x.q.0 names asked log x.key x.own held answers) same i

@@ -1,6 +1,8 @@
 -- The decision of a call, when it is made.
 use Rattle.std.proofs.Common.{◌≡◌, ℕ, List, [], ◌∷◌, ◌++◌, map, Some, refl, sym, ap, ◌∙◌, subst}
-use Rattle.std.specs.Prelude.{Option, Result, Ok, Err, OnErr}
+use Rattle.std.specs.Prelude.{◌<◌, Option, Result, Ok, Err, IfOk, IsErrAnd, OnErr}
+use Rattle.std.specs.List.{AllByRecursion}
+use Rattle.hb_names.specs.declared.names.TheConstants.{NAMES_MAX}
 use Rattle.hb_types.specs.declared.ids.KeyId.{KeyId}
 use Rattle.hb_types.specs.declared.ids.BodySite.{BodySite}
 use Rattle.hb_names.specs.Names.{Name, place}
@@ -16,10 +18,10 @@ use Rattle.hb_call.specs.declared.answers.Answer.{Answer}
 use Rattle.hb_call.specs.Held.{Holds}
 use Rattle.hb_call.specs.Calling.{Begun, Given, Grew, IsCalling, Moment, Went, answers_of}
 use Rattle.hb_call.specs.GrowthLaws.{grown_on, prefix_itself}
-use Rattle.hb_call.specs.Rules.{IsWhole}
+use Rattle.hb_call.specs.Rules.{IsRightWay, IsWhole}
 use Rattle.hb_call.specs.Alike.{went_on}
 use Rattle.hb_call.proofs.StepLemmas.{at, grew_call, went_call}
-use Rattle.hb_call.specs.Deciding.{Decided, IsFresh, IsVerdictBy}
+use Rattle.hb_call.specs.Deciding.{Decided, IsVerdictBy}
 use Rattle.hb_call.proofs.StayLemmas.{held_once}
 use Rattle.hb_call.proofs.BegunLemmas.{call_ends}
 use Rattle.hb_call.proofs.DecidingLemmas.{learned, row_here}
@@ -27,6 +29,15 @@ use Rattle.hb_call.proofs.DecidingLemmas.{learned, row_here}
 pub on_err : {X E : Type 0} {P : Type 0} (r : Result X E) → P → OnErr r P
 on_err (Ok x) p = tt
 on_err (Err e) p = p
+
+-- what failed tells nothing of an answer
+pub not_ok : {X E : Type 0} (P : E → Type 0) (Q : X → Type 0) (r : Result X E) → IsErrAnd r P → IfOk r Q
+not_ok P Q (Ok x) h = absurd h
+not_ok P Q (Err e) h = tt
+
+-- the own key, which is held first, stands for a name
+pub own_below : (c q : ℕ) (key : KeyId) (others held : List KeyId) (log : List Entry) → held ≡ key ∷ others → Holds c q held log → key.0 < NAMES_MAX
+own_below c q key others held log first h = (subst (λ (l : List KeyId). AllByRecursion (λ (k : KeyId). k.0 < NAMES_MAX) l) first h.below).0
 
 module _ (g : Given) (names asked : List Name) (log : List Entry) (held : List KeyId) (answers : List Answer) (h : IsCalling g.t g.door g.q.0 names asked log g.key g.own held answers)
     (new : List Entry) (site : Option BodySite) (v : Verdict) (between : List Entry) (is : new ≡ (log ++ between) ++ entry g.door.caller (Call g.q g.key site g.args v) ∷ []) (none : journal g.door.caller between ≡ []) (legal : IsLegal g.door.limit new) where
@@ -37,7 +48,7 @@ module _ (g : Given) (names asked : List Name) (log : List Entry) (held : List K
     below = h.holds.below;
   }
 
-  pub call_row : (bytes : List ℕ) → place names (g.class.0, bytes) ≡ Some g.key.0 → site ≡ (spot g.key.0 (log ++ between)).body → IsVerdictBy g.t g.class.0 site g.own (kinds_of g.args) (answers_of answers) v → IsDecided g.t names (log ++ between) (g.door.caller, g.q.0) g.key.0 site (kinds_of g.args) v
+  pub call_row : (bytes : List ℕ) → place names (g.class.0, bytes) ≡ Some g.key.0 → site ≡ (spot g.key.0 (log ++ between)).body → IsVerdictBy g.t g.class.0 site g.own.ty (kinds_of g.args) (answers_of answers) v → IsDecided g.t names (log ++ between) (g.door.caller, g.q.0) g.key.0 site (kinds_of g.args) v
   call_row bytes named defined by =
       let here = log ++ between in
       let low = legal_prefix g.door.limit here new (entry g.door.caller (Call g.q g.key site g.args v) ∷ [], sym is) legal in
@@ -49,12 +60,12 @@ module _ (g : Given) (names asked : List Name) (log : List Entry) (held : List K
       let low = legal_prefix g.door.limit here new (entry g.door.caller (Call g.q g.key site g.args v) ∷ [], sym is) legal in
       (learned g.t g.door g.q names asked log g.key g.own held answers h here (between, refl, none) low).whole
 
-  pub call_decided : IsFresh v → IsDecided g.t names (log ++ between) (g.door.caller, g.q.0) g.key.0 site (kinds_of g.args) v
+  pub call_decided : IsRightWay g.door.caller g.key.0 (log ++ between) v → IsDecided g.t names (log ++ between) (g.door.caller, g.q.0) g.key.0 site (kinds_of g.args) v
       → (first : List Entry) → ((start : List Entry) → Begun g.door.caller g.q g.key (kinds_of g.args) start first → Begun g.door.caller g.q g.key (kinds_of g.args) start log) → Decided g names first new v site
-  call_decided fresh row first begun = record {
+  call_decided way row first begun = record {
     before = log ++ between;
     is = is;
-    fresh = fresh;
+    way = way;
     row = row;
     reads = λ start b. call_ends g.door.caller g.q g.key site g.args v start log new (between, is, none) (begun start b);
   }
@@ -64,7 +75,7 @@ module _ (g h : Given) (same : g ≡ h) (was : Moment) (known asked : List Name)
   pub decided_went : Went g was (at known asked log) → IsLegal h.door.limit new → Went g was (at known asked new)
   decided_went went legal = went_on g was (at known asked log) (at known asked new) went (subst (λ (x : Given). Went x (at known asked log) (at known asked new)) (sym same) (went_call h known asked log new site v adds legal))
 
-  pub decided_grew : Grew g was (at known asked log) → IsDecided h.t known (log ++ adds.0) (h.door.caller, h.q.0) h.key.0 site (kinds_of h.args) v → IsWhole h.door.caller h.q.0 (log ++ adds.0) → IsFresh v → Grew g was (at known asked new)
-  decided_grew grew row whole fresh =
-      let last : Grew g (at known asked log) (at known asked new) = subst (λ (x : Given). Grew x (at known asked log) (at known asked new)) (sym same) (grew_call h known asked log new site v adds row whole fresh) in
+  pub decided_grew : Grew g was (at known asked log) → IsDecided h.t known (log ++ adds.0) (h.door.caller, h.q.0) h.key.0 site (kinds_of h.args) v → IsWhole h.door.caller h.q.0 (log ++ adds.0) → IsRightWay h.door.caller h.key.0 (log ++ adds.0) v → Grew g was (at known asked new)
+  decided_grew grew row whole way =
+      let last : Grew g (at known asked log) (at known asked new) = subst (λ (x : Given). Grew x (at known asked log) (at known asked new)) (sym same) (grew_call h known asked log new site v adds row whole way) in
       grown_on g.t g.door.caller known known was.asked asked asked was.log log new grew last (prefix_itself known)

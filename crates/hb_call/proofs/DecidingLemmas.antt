@@ -24,6 +24,7 @@ use Rattle.hb_check.specs.Asked.{Asked, Refusal, Agrees, key_asked, types_in}
 use Rattle.hb_check.specs.Checking.{Answers}
 use Rattle.hb_check.specs.Runs.{keys_asked}
 use Rattle.hb_names.specs.Names.{Name, place}
+use Rattle.hb_tables.specs.declared.desk.Held.{Held}
 use Rattle.hb_tables.specs.declared.entry.Entry.{Entry}
 use Rattle.hb_tables.specs.declared.entry.Verdict.{Verdict}
 use Rattle.hb_tables.specs.Answers.{Fixed}
@@ -39,7 +40,7 @@ use Rattle.hb_tables.proofs.VerdictLemmas.{enters_of, ill_of}
 use Rattle.hb_call.specs.declared.answers.Answer.{Answer}
 use Rattle.hb_call.specs.Held.{HasRoom, stands}
 use Rattle.hb_call.specs.Calling.{HasType, AreTrue, IsAmong, IsCalling, answers_of}
-use Rattle.hb_call.specs.Deciding.{IsVerdictBy, told, type_declared}
+use Rattle.hb_call.specs.Deciding.{IsVerdictBy, told, type_declared, verdict_by}
 use Rattle.hb_call.proofs.RoomLemmas.{room_learns}
 use Rattle.hb_call.proofs.GrowthLemmas.{whole_same}
 use Rattle.hb_call.proofs.StayLemmas.{held_once, type_stays, answers_stay, keeps_none}
@@ -60,7 +61,7 @@ parts t class (Some b) (Some m) s e = record { body = b; declared = m; has_body 
 pub fits_type : (m : MethodTy) (n : MethodTy) (kinds : List Ty) (o : Option MethodTy) → o ≡ Some m → o ≡ Some n → takes m kinds ≡ true → takes n kinds ≡ true
 fits_type m n kinds o a b h = let e : m ≡ n = cc in subst (λ (x : MethodTy). takes x kinds ≡ true) e h
 
-pub found_by : (t : Table) (class : ℕ) (site : BodySite) (declared : TypeSite) (m : MethodTy) (kinds : List Ty) (answers : List Asked) (refused : Option Refusal) (found : Checked) → sites_of t declared.0 ≡ Some m → takes m kinds ≡ true → Answers t class site.0 declared.0 answers refused (Ok found) → IsVerdictBy t class (Some site) (Some declared) kinds answers (told found)
+pub found_by : (t : Table) (class : ℕ) (site : BodySite) (declared : TypeSite) (m : MethodTy) (kinds : List Ty) (answers : List Asked) (refused : Option Refusal) (found : Checked) → sites_of t declared.0 ≡ Some m → takes m kinds ≡ true → Answers t class site.0 declared.0 answers refused (Ok found) → IsVerdictBy t class (Some site) (Some declared) kinds answers (verdict_by (told site found))
 found_by t class site declared m kinds answers refused (checked.Good d) typed fits a table agrees =
     let U = types_in (sites_of t) table in
     let p = parts t class (slice_get t.bodies site.0) (sites_of t declared.0) a.subject a.subject_is in
@@ -99,7 +100,7 @@ found_in t names log x (a ∷ answers) k h (inr i) =
     let r = found_in t names log x answers k h.2 i in let c = r.1 in
     (r.0, (suc c.0, (let low = c.1 in omega (arith, low)), c.2), r.2)
 
-module _ (t : Table) (door : Fixed) (q : CallNo) (names asked : List Name) (log : List Entry) (key : KeyId) (own : Option TypeSite) (held : List KeyId) (answers : List Answer) (h : IsCalling t door q.0 names asked log key own held answers) where
+module _ (t : Table) (door : Fixed) (q : CallNo) (names asked : List Name) (log : List Entry) (key : KeyId) (own : Held) (held : List KeyId) (answers : List Answer) (h : IsCalling t door q.0 names asked log key own held answers) where
   pub learned : (new : List Entry) → Learns door.caller log new → IsLegal door.limit new → IsCalling t door q.0 names asked new key own held answers
   learned new learns legal =
       let c = door.caller in let between = learns.0 in
@@ -120,12 +121,12 @@ module _ (t : Table) (door : Fixed) (q : CallNo) (names asked : List Name) (log 
       }
 
   -- the call is decided as its row says
-  pub row_here : (class : ℕ) (bytes : List ℕ) (site : Option BodySite) (kinds : List Ty) (v : Verdict) → place names (class, bytes) ≡ Some key.0 → site ≡ (spot key.0 log).body → IsVerdictBy t class site own kinds (answers_of answers) v
+  pub row_here : (class : ℕ) (bytes : List ℕ) (site : Option BodySite) (kinds : List Ty) (v : Verdict) → place names (class, bytes) ≡ Some key.0 → site ≡ (spot key.0 log).body → IsVerdictBy t class site own.ty kinds (answers_of answers) v
       → IsDecided t names log (door.caller, q.0) key.0 site kinds v
   row_here class bytes site kinds v named defined by =
       let r = by (declared_in t names log) (agrees t names log (door.caller, q.0) answers h.answered) in
       let ty = h.own_is.1 in
-      let decl : type_declared t own ≡ type_at (sites_of t) (site_in log (Some key.0)) = ap (λ (o : Option TypeSite). type_at (sites_of t) (option_map (λ (s : TypeSite). s.0) o)) ty in
+      let decl : type_declared t own.ty ≡ type_at (sites_of t) (site_in log (Some key.0)) = ap (λ (o : Option TypeSite). type_at (sites_of t) (option_map (λ (s : TypeSite). s.0) o)) ty in
       let looked = ap (λ (m : Option MethodTy). looks_of t (types_in (sites_of t) (declared_in t names log)) class (body_at t site) m kinds) (sym decl) ∙ r.1 in
       let needs = ap (λ (ks : List Key). (class, bytes) ∷ map (name_of t) ks) looked in
       record {

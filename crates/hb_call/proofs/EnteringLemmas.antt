@@ -22,8 +22,9 @@ use Rattle.hb_tables.specs.declared.entry.Act.TheVariants.{Free}
 use Rattle.hb_tables.specs.Standing.{Stand, all_but}
 use Rattle.hb_types.specs.declared.types.Ty.{Ty}
 use Rattle.hb_call.specs.Reading.{call_of, decision, freed, full_at, FullAt, Lost}
-use Rattle.hb_call.specs.declared.frame.Entered.{Entered}
-use Rattle.hb_call.specs.declared.frame.Entered.TheVariants as entered
+use Rattle.hb_call.specs.declared.ruling.Ended.{Ended}
+use Rattle.hb_call.specs.declared.ruling.Ended.TheVariants as ended
+use Rattle.hb_tables.specs.declared.entry.By.TheVariants as by
 use Rattle.hb_call.specs.Held.{HasCall, Holds, frees, stands}
 use Rattle.hb_call.specs.Calling.{Begun, Given, Grew, Moment, Went}
 use Rattle.hb_call.specs.Alike.{went_on}
@@ -33,8 +34,14 @@ use Rattle.hb_call.specs.Growth.{EachNew}
 use Rattle.hb_call.specs.Rules.{FitsRules}
 use Rattle.hb_call.proofs.GrowthLemmas.{grows_frees}
 use Rattle.hb_tables.specs.History.{IsLegal}
-use Rattle.hb_call.specs.Deciding.{Decided}
-use Rattle.hb_call.specs.Entering.{Asks, IsDecidedOf, Enters, IsFinished, GaveBack, GaveUp, Finished, IsFullFor}
+use Rattle.hb_call.specs.Deciding.{Decided, IsResting}
+use Rattle.hb_call.specs.OwnCache.{IsOwnCache}
+use Rattle.hb_call.specs.OwnLaws.{own_stays}
+use Rattle.hb_call.proofs.OwnGoingLemmas.{frees_leave}
+use Rattle.hb_call.specs.declared.answers.Answer.{Answer}
+use Rattle.hb_call.specs.declared.frame.Frame.{Frame}
+use Rattle.hb_deriv.specs.declared.raw.Derivation.{Derivation}
+use Rattle.hb_call.specs.Entering.{Asks, IsDecidedOf, Enters, IsFinished, GaveBack, GaveUp, Finished, IsFullFor, entered_by}
 use Rattle.hb_call.proofs.HeldLemmas.{none_stand}
 
 -- what is given back of a call that is the same as before
@@ -88,6 +95,26 @@ gave_up g h names old mid new held others same first full holds back begun =
 pub called_of : (g : Given) (names : List Name) (old new : List Entry) (v : Verdict) (site : Option BodySite) → Decided g names old new v site → HasCall g.door.caller g.q.0 new
 called_of g names old new v site d = record { before = d.before; call = g.q; key = g.key; site = site; args = g.args; verdict = v; after = []; is = d.is; number = refl }
 
+-- a frame that took the keys over of a call that is the same as before
+module _ (g h : Given) (same : g ≡ h) (f : Frame) (q : f.q ≡ h.q) (key : f.key ≡ h.key) (held : List KeyId) (keys : f.held.items ≡ held) where
+  pub framed : (names : List Name) (old new : List Entry) (v : Verdict) (body : BodySite) → f.body ≡ body → Decided h names old new v (Some body) → Holds h.door.caller h.q.0 held new → (f.q ≡ g.q) × (f.key ≡ g.key) × IsFinished g names old new v (Some f.body) f.held.items
+  framed names old new v body is decided holds =
+      subst (λ (x : Given). (f.q ≡ x.q) × (f.key ≡ x.key) × IsFinished x names old new v (Some f.body) f.held.items) (sym same)
+      (q, key, record { decided = subst (λ (b : BodySite). Decided h names old new v (Some b)) (sym is) decided; holds = subst (λ (l : List KeyId). Holds h.door.caller h.q.0 l new) (sym keys) holds })
+
+  pub framed_resting : (known asked : List Name) (new : List Entry) (answers : List Answer) (d : Derivation) → f.body ≡ d.body → IsResting h known asked new held answers d → (f.q ≡ g.q) × (f.key ≡ g.key) × (f.body ≡ d.body) × IsResting g known asked new f.held.items answers d
+  framed_resting known asked new answers d is rests =
+      subst (λ (x : Given). (f.q ≡ x.q) × (f.key ≡ x.key) × (f.body ≡ d.body) × IsResting x known asked new f.held.items answers d) (sym same)
+      (q, key, is, subst (λ (l : List KeyId). IsResting h known asked new l answers d) (sym keys) rests)
+
+-- it holds its keys behind its Call
+pub framed_well : (g : Given) (names : List Name) (old new : List Entry) (v : Verdict) (f : Frame) → (f.q ≡ g.q) × (f.key ≡ g.key) × IsFinished g names old new v (Some f.body) f.held.items → (f.q ≡ g.q) × Holds g.door.caller g.q.0 f.held.items new × HasCall g.door.caller g.q.0 new
+framed_well g names old new v f h = (h.0, h.2.holds, called_of g names old new v (Some f.body) h.2.decided)
+
+-- what is kept stays so for a call that is the same as before
+pub same_own : (g h : Given) (known asked : List Name) (new : List Entry) → g ≡ h → IsOwnCache h.t known asked h.door.caller new h.cache → IsOwnCache g.t known asked g.door.caller new g.cache
+same_own g h known asked new same own = subst (λ (x : Given). IsOwnCache x.t known asked x.door.caller new x.cache) (sym same) own
+
 -- what a call comes to that gave back what it held
 module _ (g h : Given) (same : g ≡ h) (was : Moment) (known asked : List Name) (mid new : List Entry) (held : List KeyId) (kept : IsPrefix mid new) (back : acts h.door.caller new ≡ acts h.door.caller mid ++ frees h.q held) where
   pub back_went : (IsLegal h.door.limit mid → IsLegal h.door.limit new) → Went g was (at known asked mid) → Went g was (at known asked new)
@@ -97,6 +124,9 @@ module _ (g h : Given) (same : g ≡ h) (was : Moment) (known asked : List Name)
   back_grew rules grew =
       let last : Grew g (at known asked mid) (at known asked new) = subst (λ (x : Given). Grew x (at known asked mid) (at known asked new)) (sym same) (with_rules h.t h.door.caller known asked asked mid new (grows_frees h.door.caller known asked h.q held mid new kept back) rules) in
       grown_on g.t g.door.caller known known was.asked asked asked was.log mid new grew last (prefix_itself known)
+
+  pub back_own : IsOwnCache h.t known asked h.door.caller mid h.cache → IsOwnCache g.t known asked g.door.caller new g.cache
+  back_own own = same_own g h known asked new same (own_stays h.t known known asked asked h.door.caller mid new h.cache (prefix_itself known) (prefix_itself asked) own (frees h.q held) kept back (frees_leave h.q held))
 
 pub none_left : (g h : Given) (mid new : List Entry) (held : List KeyId) → g ≡ h → Holds h.door.caller h.q.0 held mid → acts h.door.caller new ≡ acts h.door.caller mid ++ frees h.q held → stands g.door.caller g.q.0 new ≡ []
 none_left g h mid new held same holds freed = ap (λ (x : Given). stands x.door.caller x.q.0 new) same ∙ none_stand h.door.caller h.q held mid new holds freed
@@ -127,9 +157,10 @@ module _ (a : Asks) (g : Given) (program : g.t ≡ a.t) (door : g.door ≡ a.doo
   none_of : (new : List Entry) → stands g.door.caller g.q.0 new ≡ [] → stands a.door.caller a.q.0 new ≡ []
   none_of new none = ap (λ (d : Fixed). stands d.caller a.q.0 new) (sym door) ∙ ap (λ (p : CallNo). stands g.door.caller p.0 new) (sym q) ∙ none
 
-  pub enters : (new : List Entry) (r : Result Entered CallFail) → Finished g names first new r → Enters a names old new r
-  enters new (Ok (entered.Frame f way)) h = (h.0 ∙ q, decided_of new f.key (verdict.Enter way) (Some f.body) f.held.items h.1 h.2)
-  enters new (Ok (entered.Refused v)) h = record {
+  pub enters : (new : List Entry) (r : Result Ended CallFail) → Finished g names first new r → Enters a names old new (entered_by r)
+  enters new (Ok (ended.Own f)) h = (h.0 ∙ q, decided_of new f.key (verdict.Enter by.Own) (Some f.body) f.held.items h.1 h.2)
+  enters new (Ok (ended.Fresh f d)) h = (h.0 ∙ q, decided_of new f.key (verdict.Enter by.Fresh) (Some f.body) f.held.items h.1 h.2)
+  enters new (Ok (ended.Refused v)) h = record {
     mid = h.mid;
     key = g.key;
     site = h.site;

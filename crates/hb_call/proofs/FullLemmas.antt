@@ -27,7 +27,7 @@ use Rattle.hb_tables.specs.History.{spot, times, entry, IsLegal}
 use Rattle.hb_tables.specs.Frames.{acts, KeepsHold}
 use Rattle.hb_tables.specs.Standing.{count_of, standing}
 use Rattle.hb_tables.specs.Names.{name_of}
-use Rattle.hb_tables.specs.Rows.{HoldsName, body_at, declared_in, site_in, type_of_key, types_in}
+use Rattle.hb_tables.specs.Rows.{HoldsName, body_at, declared_in, kinds_of, site_in, type_of_key, types_in}
 use Rattle.hb_tables.specs.Verdicts.{looks_of, takes}
 use Rattle.hb_tables.proofs.FrameLemmas.{acts_append, acts_cut, hold_keeps}
 use Rattle.hb_tables.proofs.DeskLemmas.{same_held}
@@ -35,6 +35,7 @@ use Rattle.hb_tables.proofs.HistoryLemmas.{legal_prefix}
 use Rattle.hb_call.specs.declared.answers.Answer.{Answer}
 use Rattle.hb_call.specs.declared.answers.Refused.{Refused}
 use Rattle.hb_call.specs.declared.frame.CallFail.{CallFail}
+use Rattle.hb_call.specs.declared.ruling.Ended.{Ended}
 use Rattle.hb_call.specs.declared.frame.CallFail.TheVariants as fail
 use Rattle.hb_call.proofs.RetreatLemmas.{first_of}
 use Rattle.hb_call.proofs.HeldLemmas.{count_head}
@@ -49,7 +50,9 @@ use Rattle.hb_call.specs.GrowthLaws.{looks_of_on, prefix_more}
 use Rattle.hb_call.proofs.GrowthLemmas.{each_made, whole_same}
 use Rattle.hb_call.proofs.StayLemmas.{acts_rest}
 use Rattle.hb_call.proofs.DecidingLemmas.{agrees, found_in, held_in}
-use Rattle.hb_call.proofs.LookingLemmas.{all_looks, began_on}
+use Rattle.hb_call.specs.Deciding.{AreNext, type_declared}
+use Rattle.hb_call.proofs.NarrowLemmas.{looks_here, narrow_before}
+use Rattle.hb_call.proofs.LookingLemmas.{all_looks, began_on, true_back}
 
 -- while others go on, a list of names that was full for the next look is so
 module _ (t : Table) (names : List Name) (limit c : ℕ) (q : CallNo) (key : KeyId) (log rest : List Entry) (legal : IsLegal limit (log ++ rest)) (none : acts c rest ≡ []) where
@@ -108,7 +111,7 @@ full_frees t names limit c q key others mid new full one legal is =
         let low = legal_prefix limit (mid ++ from.0) new (to.0, ap (λ w. w ++ to.0) from.1 ∙ to.1) legal in
         let here = subst (IsFullRightly t names c q key) from.1 (full_later t names limit c q key mid from.0 low none one full) in
         let act : Free q key ≡ a = cc e in
-        subst (FitsRules t names c before) act (record { row = tt; hold = tt; free = inr (inr (inl here)); whole = tt; named = tt; fresh = tt })
+        subst (FitsRules t names c before) act (record { row = tt; hold = tt; free = inr (inr (inl here)); whole = tt; named = tt; entered = tt })
     go (x ∷ xs) ys a before e from to more =
         let act : Free q key ≡ x = cc e in let rest : frees q others ≡ xs ++ a ∷ ys = cc e in
         let cut = acts_cut c from.0 [] (Free q key) xs (more ∙ ap (λ y. y ∷ xs) (sym act)) in
@@ -120,7 +123,7 @@ full_frees t names limit c q key others mid new full one legal is =
         behind : (q : CallNo) (others : List KeyId) (xs ys : List Act) (a : Act) (before : List Entry) → frees q others ≡ xs ++ a ∷ ys → GivesUp c q before → FitsRules t names c before a
         behind q [] [] ys a before e gives = absurd (cc e)
         behind q [] (x ∷ xs) ys a before e gives = absurd (cc e)
-        behind q (j ∷ others) [] ys a before e gives = let act : Free q j ≡ a = cc e in subst (FitsRules t names c before) act (record { row = tt; hold = tt; free = inr (inr (inr gives)); whole = tt; named = tt; fresh = tt })
+        behind q (j ∷ others) [] ys a before e gives = let act : Free q j ≡ a = cc e in subst (FitsRules t names c before) act (record { row = tt; hold = tt; free = inr (inr (inr gives)); whole = tt; named = tt; entered = tt })
         behind q (j ∷ others) (x ∷ xs) ys a before e gives = behind q others xs ys a before (cc e) gives
 
 -- a call holds its own key
@@ -130,13 +133,13 @@ own_held c q key held others log h is =
     let n = held_stands c q.0 key.0 log in let a = ap (count_of key.0) f.is in let b = count_head key.0 f.rest f.h f.key_is in let o = h.once key.0 in omega (arith, n, a, b, o)
 
 -- what a call frees that found the list of names full fits the rules
-pub stopped_fits : (t : Table) (names : List Name) (limit c : ℕ) (q : CallNo) (key : KeyId) (others held : List KeyId) (mid new : List Entry) (cause : CallFail) → IsTold (Err cause) → IsRightlyFor t names c q key mid cause → held ≡ key ∷ others → Holds c q.0 held mid → IsLegal limit new → acts c new ≡ acts c mid ++ frees q held → EachNew (FitsRules t names c) c mid new
+pub stopped_fits : (t : Table) (names : List Name) (limit c : ℕ) (q : CallNo) (key : KeyId) (others held : List KeyId) (mid new : List Entry) (cause : CallFail) → IsTold {X = Ended} (Err cause) → IsRightlyFor t names c q key mid cause → held ≡ key ∷ others → Holds c q.0 held mid → IsLegal limit new → acts c new ≡ acts c mid ++ frees q held → EachNew (FitsRules t names c) c mid new
 stopped_fits t names limit c q key others held mid new fail.Full told full first holds legal is = full_frees t names limit c q key others mid new full (own_held c q key held others mid holds first) legal (is ∙ ap (λ ks. acts c mid ++ frees q ks) first)
 stopped_fits t names limit c q key others held mid new fail.NoMemory told full first holds legal is = absurd told
 
 -- a check that the full list of names ended
-module _ (g : Given) (is : Moment) (site : BodySite) (declared : TypeSite) (m : MethodTy) (kinds : List Ty) (typed : sites_of g.t declared.0 ≡ Some m) (fits : takes m kinds ≡ true) (own : g.own ≡ Some declared)
-    (after : List KeyId) (answers : List Answer) (refused : Option Refused) (i : IsCalling g.t g.door g.q.0 is.known is.asked is.log g.key g.own after answers)
+module _ (g : Given) (is : Moment) (site : BodySite) (declared : TypeSite) (m : MethodTy) (kinds : List Ty) (typed : sites_of g.t declared.0 ≡ Some m) (fits : takes m kinds ≡ true) (own : g.own.ty ≡ Some declared)
+    (after : List KeyId) (compared answers : List Answer) (refused : Option Refused) (j : IsCalling g.t g.door g.q.0 is.known is.asked is.log g.key g.own after (compared ++ answers)) (next : AreNext g (Some site) compared) (same_kinds : kinds ≡ kinds_of g.args)
     (bytes : List ℕ) (named : place is.known (g.class.0, bytes) ≡ Some g.key.0) (body : HasBody g.door.caller g.q g.key (Some site) is.log) (right : IsRefusedRightly g.t is.known refused) where
   pub rightly : (cause : LookFail) → Answers g.t g.class.0 site.0 declared.0 (answers_of answers) (refusal_of refused) (Err cause) → IsRightlyFor g.t is.known g.door.caller g.q g.key is.log (look_cause cause)
   rightly look.NoMemory a = tt
@@ -147,7 +150,9 @@ module _ (g : Given) (is : Moment) (site : BodySite) (declared : TypeSite) (m : 
       go (Some r) a right =
           let c = g.door.caller in
           let ks = map key_asked (answers_of answers) in
-          let all = all_looks g.t g.class.0 site declared m kinds typed fits answers (refusal_of (Some r)) (Err look.Full) a (declared_in g.t is.known is.log) (agrees g.t is.known is.log (c, g.q.0) answers i.answered) in
+          let all = all_looks g.t g.class.0 site declared m kinds typed fits answers (refusal_of (Some r)) (Err look.Full) a (declared_in g.t is.known is.log) (agrees g.t is.known is.log (c, g.q.0) answers (true_back g.t is.known is.log (c, g.q.0) compared answers j.answered)) in
+          let looks_are : looks_here g is.known is.log (Some site) ≡ ks ++ (r.class.0, r.name.0) ∷ all.0 = ap (λ (o : Option TypeSite). looks_of g.t (types_in g.t is.known is.log) g.class.0 (slice_get g.t.bodies site.0) (type_declared g.t o) (kinds_of g.args)) own ∙ ap (λ (l : List Ty). looks_of g.t (types_in g.t is.known is.log) g.class.0 (slice_get g.t.bodies site.0) (sites_of g.t declared.0) l) (sym same_kinds) ∙ all.1 ∙ append_assoc ks ((r.class.0, r.name.0) ∷ []) all.0 in
+          let i = narrow_before g is.known is.asked is.log after compared answers j (Some site) (r.class.0, r.name.0) all.0 next looks_are (right (sym a.cause)).1 in
           let at_key : type_of_key g.t is.log g.key.0 ≡ sites_of g.t declared.0 = ap (λ (o : Option TypeSite). type_at (sites_of g.t) (option_map (λ (s : TypeSite). s.0) o)) (sym i.own_is.1 ∙ own) in
           record {
             look = (r.class.0, r.name.0);

@@ -1,15 +1,14 @@
 -- A call that gives back all but its own key.
 use Rattle.std.proofs.Common.{◌≡◌, ℕ, ◌+◌, ◌-◌, ◌<◌, ◌≤◌, inl, Bool, true, false, cond, eqb, List, [], ◌∷◌, ◌++◌, length, map, take, drop, sym, refl, ap, ◌∙◌, subst, arith, eq-eqb, nat_eq}
 use Rattle.std.proofs.lemmas.Bool.{eqb-true}
-use Rattle.std.specs.Prelude.{Option}
 use Rattle.std.specs.List.{AllByRecursion}
 use mathlib.Core.List.{IsPrefix}
 use Rattle.hb_types.specs.declared.ids.KeyId.{KeyId}
 use Rattle.hb_types.specs.declared.ids.CallNo.{CallNo}
-use Rattle.hb_types.specs.declared.ids.TypeSite.{TypeSite}
 use Rattle.hb_tree.specs.Table.{Table}
 use Rattle.hb_names.specs.Names.{Name}
 use Rattle.hb_names.specs.declared.names.TheConstants.{NAMES_MAX}
+use Rattle.hb_tables.specs.declared.desk.Held.{Held}
 use Rattle.hb_tables.specs.declared.entry.Entry.{Entry}
 use Rattle.hb_tables.specs.Answers.{Fixed}
 use Rattle.hb_tables.specs.History.{IsLegal}
@@ -57,7 +56,7 @@ none_other k (h ∷ hs) (key ∷ others) e none = go (eqb k h.key) refl (none_ot
             by false x = x
             by true x = absurd (let u = eq-eqb k b (sym (eqb-true a k x) ∙ s) in cc)
 
-module _ (t : Table) (door : Fixed) (q : CallNo) (names asked : List Name) (log : List Entry) (key : KeyId) (own : Option TypeSite) (held : List KeyId) (answers : List Answer) (h : IsCalling t door q.0 names asked log key own held answers) where
+module _ (t : Table) (door : Fixed) (q : CallNo) (names asked : List Name) (log : List Entry) (key : KeyId) (own : Held) (held : List KeyId) (answers : List Answer) (h : IsCalling t door q.0 names asked log key own held answers) where
   begins : First key h.first.0 (stands door.caller q.0 log)
   begins = first_of key h.first.0 (stands door.caller q.0 log) (h.holds.keys ∙ ap (map (λ (k : KeyId). k.0)) h.first.1)
 

@@ -10,6 +10,7 @@ use Rattle.hb_tree.specs.Table.{Table}
 use Rattle.hb_names.specs.Names.{Differ, Name, place, with_name}
 use Rattle.hb_names.specs.declared.names.TheConstants.{NAMES_MAX}
 use Rattle.hb_tables.specs.declared.entry.TheConstants.{HOLDS_MAX}
+use Rattle.hb_tables.specs.declared.desk.Held.{Held}
 use Rattle.hb_tables.specs.declared.entry.Entry.{Entry}
 use Rattle.hb_tables.specs.declared.entry.Act.TheVariants.{Hold}
 use Rattle.hb_tables.specs.Answers.{Fixed}
@@ -40,19 +41,19 @@ none_held c q k log none = held_stands c q k log ∙ ap (count_of k) none
 pub first_room : (c q k : ℕ) (log : List Entry) → stands c q log ≡ [] → HasRoom log c q → length (of_caller c (spot k log).calls) < HOLDS_MAX
 first_room c q k log none room = let r = room k in let z = none_held c q k log none in omega (arith, r, z)
 
-pub started : (t : Table) (door : Fixed) (q : CallNo) (names asked : List Name) (old new : List Entry) (key : KeyId) (own : Option TypeSite) (n : ℕ) → Adds door.caller old new (Hold q key own n) → IsLegal door.limit new → stands door.caller q.0 old ≡ [] → HasRoom old door.caller q.0 → key.0 < NAMES_MAX → IsAskedFor names asked key.0 → IsCalling t door q.0 names asked new key own (key ∷ []) []
-started t door q names asked old new key own n adds legal none room low asks =
-    let c = door.caller in
+pub started : (t : Table) (door : Fixed) (q : CallNo) (names asked : List Name) (old new : List Entry) (key : KeyId) (own : Held) → Adds door.caller old new (Hold q key own.ty own.changes) → IsLegal door.limit new → stands door.caller q.0 old ≡ [] → HasRoom old door.caller q.0 → key.0 < NAMES_MAX → IsAskedFor names asked key.0 → IsCalling t door q.0 names asked new key own (key ∷ []) []
+started t door q names asked old new key own adds legal none room low asks =
+    let c = door.caller in let n = own.changes in
     record {
       legal = legal;
-      room = room_hold c q key own n old new adds room;
-      holds = record { keys = hold_keys c q key own n old new [] adds (ap (map (λ (h : Stand). h.key)) none); once = held_once door.limit c q.0 new legal; below = (low, tt) };
+      room = room_hold c q key own.ty n old new adds room;
+      holds = record { keys = hold_keys c q key own.ty n old new [] adds (ap (map (λ (h : Stand). h.key)) none); once = held_once door.limit c q.0 new legal; below = (low, tt) };
       first = ([], refl);
-      own_is = (held_after c old new q key own n adds (none_held c q.0 key.0 old none), hold_finds door.limit c q key own n old new adds legal);
+      own_is = let finds = hold_finds door.limit c q key own.ty n old new adds legal in (held_after c old new q key own.ty n adds (none_held c q.0 key.0 old none), finds.0, finds.1);
       answered = tt;
-      only = λ k one. ⊎_elim (λ e. inl e) (λ o. absurd (let z = none_held c q.0 k old none in omega (arith, o, z))) (held_then c q key own n old new k adds one);
-      asked_for = λ k one. ⊎_elim (λ e. subst (IsAskedFor names asked) (sym e) asks) (λ o. absurd (let z = none_held c q.0 k old none in omega (arith, o, z))) (held_then c q key own n old new k adds one);
-      whole = whole_hold c q key own n old new adds;
+      only = λ k one. ⊎_elim (λ e. inl e) (λ o. absurd (let z = none_held c q.0 k old none in omega (arith, o, z))) (held_then c q key own.ty n old new k adds one);
+      asked_for = λ k one. ⊎_elim (λ e. subst (IsAskedFor names asked) (sym e) asks) (λ o. absurd (let z = none_held c q.0 k old none in omega (arith, o, z))) (held_then c q key own.ty n old new k adds one);
+      whole = whole_hold c q key own.ty n old new adds;
     }
 
 -- the first Hold fits the rules
@@ -60,7 +61,7 @@ pub first_fits : (t : Table) (known : List Name) (c : ℕ) (q : CallNo) (old mid
 first_fits t known c q old mid first key ty n adds none named learns =
     let F = FitsRules t known c in
     each_on F c old mid first (learns_prefix c mid first learns)
-    (each_adds F c old mid (Hold q key ty n) adds (record { row = tt; hold = inl (ap (standing q.0) (learns_acts c old (old ++ adds.0) (adds.0, refl, adds.2)) ∙ none); free = tt; whole = inl (ap (standing q.0) (learns_acts c old (old ++ adds.0) (adds.0, refl, adds.2)) ∙ none); named = named; fresh = tt }))
+    (each_adds F c old mid (Hold q key ty n) adds (record { row = tt; hold = inl (ap (standing q.0) (learns_acts c old (old ++ adds.0) (adds.0, refl, adds.2)) ∙ none); free = tt; whole = inl (ap (standing q.0) (learns_acts c old (old ++ adds.0) (adds.0, refl, adds.2)) ∙ none); named = named; entered = tt }))
     (each_learns F c mid first learns)
 
 -- the look behind the first Hold
@@ -85,9 +86,9 @@ looked_first c q old mid log key ty n seen adds none learns fact = record {
 }
 
 -- the method's key is asked for and held, and then its definition is looked at
-pub begins : (g : Given) (known asked longer more : List Name) (old mid first : List Entry) (name : Name) (ty : Option TypeSite) (n : ℕ) → IsPrefix known longer → length longer ≤ NAMES_MAX → Differ longer → place longer name ≡ Some g.key.0 → more ≡ with_name asked name
-    → Adds g.door.caller old mid (Hold g.q g.key ty n) → IsLegal g.door.limit mid → stands g.door.caller g.q.0 old ≡ [] → Learns g.door.caller mid first → IsLegal g.door.limit first → Goes g (at known asked old) (at longer more first)
-begins g known asked longer more old mid first name ty n named few differ e is adds legal none learns later =
+pub begins : (g : Given) (known asked longer more : List Name) (old mid first : List Entry) (name : Name) (own : Held) → IsPrefix known longer → length longer ≤ NAMES_MAX → Differ longer → place longer name ≡ Some g.key.0 → more ≡ with_name asked name
+    → Adds g.door.caller old mid (Hold g.q g.key own.ty own.changes) → IsLegal g.door.limit mid → stands g.door.caller g.q.0 old ≡ [] → Learns g.door.caller mid first → IsLegal g.door.limit first → Goes g (at known asked old) (at longer more first)
+begins g known asked longer more old mid first name own named few differ e is adds legal none learns later =
     goes_on g (at known asked old) (at longer more mid) (at longer more first)
-    (goes_key g known asked longer more old mid name g.key ty named few differ e is (inr (n, adds)) (λ one. absurd (let z = none_held g.door.caller g.q.0 g.key.0 old none in omega (arith, one, z))) legal)
+    (goes_key g known asked longer more old mid name g.key own named few differ e is (inr adds) (λ one. absurd (let z = none_held g.door.caller g.q.0 g.key.0 old none in omega (arith, one, z))) legal)
     (goes_learns g longer more mid first learns later)

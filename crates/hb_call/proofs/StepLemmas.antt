@@ -1,5 +1,5 @@
 -- What one step of a call adds to names and entries.
-use Rattle.std.proofs.Common.{◌≡◌, ◌≢◌, inl, inr, ℕ, ◌≤◌, false, List, ◌++◌, length, Some, refl, sym, ap, ◌∙◌, subst, ne_eqb}
+use Rattle.std.proofs.Common.{◌≡◌, ◌≢◌, inl, inr, ℕ, ◌≤◌, false, List, [], ◌∷◌, ◌++◌, length, Some, refl, sym, ap, ◌∙◌, subst, ne_eqb}
 use Rattle.std.specs.Prelude.{Option}
 use mathlib.Core.List.{IsPrefix}
 use Rattle.hb_types.specs.declared.ids.KeyId.{KeyId}
@@ -7,12 +7,11 @@ use Rattle.hb_types.specs.declared.ids.TypeSite.{TypeSite}
 use Rattle.hb_types.specs.declared.ids.BodySite.{BodySite}
 use Rattle.hb_names.specs.Names.{Name, Differ, place, with_name}
 use Rattle.hb_names.specs.declared.names.TheConstants.{NAMES_MAX}
+use Rattle.hb_tables.specs.declared.desk.Held.{Held}
 use Rattle.hb_tables.specs.declared.entry.Entry.{Entry}
 use Rattle.hb_tables.specs.declared.entry.Act.{Act}
 use Rattle.hb_tables.specs.declared.entry.Act.TheVariants.{Hold, Call}
 use Rattle.hb_tables.specs.declared.entry.Verdict.{Verdict}
-use Rattle.hb_tables.specs.declared.entry.Verdict.TheVariants as verdict
-use Rattle.hb_tables.specs.declared.entry.ArgKinds.{ArgKinds}
 use Rattle.hb_types.specs.declared.ids.CallNo.{CallNo}
 use Rattle.hb_tables.specs.Answers.{Fixed}
 use Rattle.hb_tables.specs.History.{spot, times, Adds, Learns, IsLegal}
@@ -22,13 +21,16 @@ use Rattle.hb_tables.specs.Rows.{IsDecided, kinds_of}
 use Rattle.hb_tables.proofs.DeskLemmas.{adds_apart, adds_prefix, learns_acts, learns_prefix}
 use Rattle.hb_tables.proofs.StandingLemmas.{has_part}
 use Rattle.hb_call.specs.Held.{frees}
-use Rattle.hb_call.specs.Calling.{Given, Goes, Grew, IsAlike, IsAskedFor, IsHeldFrom, Moment, Went}
+use Rattle.hb_call.specs.Calling.{AreParts, Given, Goes, Grew, IsAlike, IsAskedFor, IsHeldFrom, Moment, Went}
 use Rattle.hb_call.specs.GrowthLaws.{grows_itself, prefix_itself, with_rules}
-use Rattle.hb_call.specs.Deciding.{IsFresh}
-use Rattle.hb_call.specs.Rules.{EntersFresh, FitsRules, IsWhole}
+use Rattle.hb_call.specs.Rules.{IsRightWay, FitsRules, IsWhole}
 use Rattle.hb_call.specs.Alike.{goes_on}
 use Rattle.hb_call.proofs.GrowthLemmas.{asked_again, asked_on, each_adds, grows_adds, grows_frees, grows_learns, key_named, others_frees}
 use Rattle.hb_call.proofs.BegunLemmas.{AreOthers, begun_frees, begun_hold, begun_learns, keeps_others}
+
+parts_frees : (q : CallNo) (keys : List KeyId) → AreParts q (frees q keys)
+parts_frees q [] = tt
+parts_frees q (key ∷ keys) = (refl, parts_frees q keys)
 
 abbrev pub at : List Name → List Name → List Entry → Moment
 at known asked log = record { known = known; asked = asked; log = log }
@@ -36,19 +38,12 @@ at known asked log = record { known = known; asked = asked; log = log }
 pub alike_door : (g : Given) (door : Fixed) (was is : Moment) → door ≡ g.door → Goes g was is → IsAlike g (record g { door = door }) was is
 alike_door g door was is e goes = record { same = ap (λ (d : Fixed). record g { door = d }) (sym e); goes = goes }
 
-enters_fresh : (q : CallNo) (key : KeyId) (site : Option BodySite) (args : ArgKinds) (v : Verdict) → IsFresh v → EntersFresh (Call q key site args v)
-enters_fresh q key site args (verdict.Enter way) h = cc h
-enters_fresh q key site args verdict.NoBody h = tt
-enters_fresh q key site args verdict.NoType h = tt
-enters_fresh q key site args verdict.BadArgs h = tt
-enters_fresh q key site args (verdict.IllTyped f) h = tt
-
 module _ (g : Given) (known asked : List Name) where
   went_names : (longer : List Name) (log : List Entry) → IsPrefix known longer → length longer ≤ NAMES_MAX → Differ longer → Went g (at known asked log) (at longer asked log)
   went_names longer log named few differ = record { named = named; few = λ h. few; differ = λ h. differ; kept = prefix_itself log; legal = λ h. h; others = λ p other. refl }
 
   pub goes_names : (longer : List Name) (log : List Entry) → IsPrefix known longer → length longer ≤ NAMES_MAX → Differ longer → Goes g (at known asked log) (at longer asked log)
-  goes_names longer log named few differ = record { went = went_names longer log named few differ; grew = grows_itself g.door.caller longer asked log; keeps = tt; begun = λ kinds start b. b }
+  goes_names longer log named few differ = record { went = went_names longer log named few differ; grew = grows_itself g.door.caller longer asked log; keeps = tt; parts = tt; begun = λ kinds start b. b }
 
   pub went_adds : (more : List Name) (old new : List Entry) (a : Act) → Adds g.door.caller old new a → IsLegal g.door.limit new → ((p : ℕ) → p ≢ g.q.0 → has_part p a ≡ false) → Went g (at known asked old) (at known more new)
   went_adds more old new a adds legal apart = record {
@@ -60,7 +55,7 @@ module _ (g : Given) (known asked : List Name) where
     others = λ p other. adds_apart g.door.caller p old new a adds (apart p other);
   }
 
-  goes_hold : (longer : List Name) (old new : List Entry) (name : Name) (key : KeyId) (ty : Option TypeSite) (n : ℕ) → place longer name ≡ Some key.0 → Adds g.door.caller old new (Hold g.q key ty n) → IsLegal g.door.limit new → Goes g (at longer asked old) (at longer (with_name asked name) new)
+  pub goes_hold : (longer : List Name) (old new : List Entry) (name : Name) (key : KeyId) (ty : Option TypeSite) (n : ℕ) → place longer name ≡ Some key.0 → Adds g.door.caller old new (Hold g.q key ty n) → IsLegal g.door.limit new → Goes g (at longer asked old) (at longer (with_name asked name) new)
   goes_hold longer old new name key ty n e adds legal = record {
     went = record {
       named = prefix_itself longer;
@@ -72,19 +67,20 @@ module _ (g : Given) (known asked : List Name) where
     };
     grew = grows_adds g.door.caller longer asked (with_name asked name) old new (Hold g.q key ty n) adds (λ names p. sym (key_named longer names asked name key.0 e p));
     keeps = (refl, tt);
+    parts = (refl, tt);
     begun = λ kinds start b. begun_hold g.door.caller g.q g.key key kinds ty n start old new adds b;
   }
 
   -- a key was asked for, and is held from before or from here on
-  pub goes_key : (longer more : List Name) (old new : List Entry) (name : Name) (key : KeyId) (ty : Option TypeSite) → IsPrefix known longer → length longer ≤ NAMES_MAX → Differ longer → place longer name ≡ Some key.0 → more ≡ with_name asked name
-      → IsHeldFrom g.door.caller g.q key ty old new → (times (g.door.caller, g.q.0) (spot key.0 old).calls ≡ 1 → IsAskedFor known asked key.0) → IsLegal g.door.limit new → Goes g (at known asked old) (at longer more new)
-  goes_key longer more old new name key ty named few differ e is (inl h) before legal =
+  pub goes_key : (longer more : List Name) (old new : List Entry) (name : Name) (key : KeyId) (held : Held) → IsPrefix known longer → length longer ≤ NAMES_MAX → Differ longer → place longer name ≡ Some key.0 → more ≡ with_name asked name
+      → IsHeldFrom g.door.caller g.q key held old new → (times (g.door.caller, g.q.0) (spot key.0 old).calls ≡ 1 → IsAskedFor known asked key.0) → IsLegal g.door.limit new → Goes g (at known asked old) (at longer more new)
+  goes_key longer more old new name key held named few differ e is (inl h) before legal =
       let again = asked_again longer asked name key.0 (asked_on known longer asked asked key.0 named (prefix_itself asked) (before h.1.0)) e in
       subst (λ (l : List Entry). Goes g (at known asked old) (at longer more l)) (sym h.0)
       (subst (λ (m : List Name). Goes g (at known asked old) (at longer m old)) (sym (is ∙ again)) (goes_names longer old named few differ))
-  goes_key longer more old new name key ty named few differ e is (inr h) before legal =
+  goes_key longer more old new name key held named few differ e is (inr h) before legal =
       goes_on g (at known asked old) (at longer asked old) (at longer more new) (goes_names longer old named few differ)
-      (subst (λ (m : List Name). Goes g (at longer asked old) (at longer m new)) (sym is) (goes_hold longer old new name key ty h.0 e h.1 legal))
+      (subst (λ (m : List Name). Goes g (at longer asked old) (at longer m new)) (sym is) (goes_hold longer old new name key held.ty held.changes e h legal))
 
   pub goes_learns : (old new : List Entry) → Learns g.door.caller old new → IsLegal g.door.limit new → Goes g (at known asked old) (at known asked new)
   goes_learns old new learns legal = record {
@@ -98,6 +94,7 @@ module _ (g : Given) (known asked : List Name) where
     };
     grew = grows_learns g.door.caller known asked asked old new learns refl;
     keeps = tt;
+    parts = tt;
     begun = λ kinds start b. begun_learns g.door.caller g.q g.key kinds start old new learns b;
   }
 
@@ -116,14 +113,15 @@ module _ (g : Given) (known asked : List Name) where
     went = went_frees old new keys kept is legal;
     grew = grows_frees g.door.caller known asked g.q keys old new kept is;
     keeps = keeps_others g.q g.key.0 keys others;
+    parts = parts_frees g.q keys;
     begun = λ kinds start b. begun_frees g.door.caller g.q g.key kinds keys start old new is others b;
   }
 
-  -- the Call comes last, as its row says, and enters on a fresh check
-  pub grew_call : (old new : List Entry) (site : Option BodySite) (v : Verdict) (adds : Adds g.door.caller old new (Call g.q g.key site g.args v)) → IsDecided g.t known (old ++ adds.0) (g.door.caller, g.q.0) g.key.0 site (kinds_of g.args) v → IsWhole g.door.caller g.q.0 (old ++ adds.0) → IsFresh v → Grew g (at known asked old) (at known asked new)
-  grew_call old new site v adds row whole fresh =
+  -- the Call comes last, as its row says, and enters in the right way
+  pub grew_call : (old new : List Entry) (site : Option BodySite) (v : Verdict) (adds : Adds g.door.caller old new (Call g.q g.key site g.args v)) → IsDecided g.t known (old ++ adds.0) (g.door.caller, g.q.0) g.key.0 site (kinds_of g.args) v → IsWhole g.door.caller g.q.0 (old ++ adds.0) → IsRightWay g.door.caller g.key.0 (old ++ adds.0) v → Grew g (at known asked old) (at known asked new)
+  grew_call old new site v adds row whole way =
       with_rules g.t g.door.caller known asked asked old new (grows_adds g.door.caller known asked asked old new (Call g.q g.key site g.args v) adds (λ names p. refl))
-      (each_adds (FitsRules g.t known g.door.caller) g.door.caller old new (Call g.q g.key site g.args v) adds (record { row = row; hold = tt; free = tt; whole = whole; named = tt; fresh = enters_fresh g.q g.key site g.args v fresh }))
+      (each_adds (FitsRules g.t known g.door.caller) g.door.caller old new (Call g.q g.key site g.args v) adds (record { row = row; hold = tt; free = tt; whole = whole; named = tt; entered = way }))
 
   pub went_call : (old new : List Entry) (site : Option BodySite) (v : Verdict) → Adds g.door.caller old new (Call g.q g.key site g.args v) → IsLegal g.door.limit new → Went g (at known asked old) (at known asked new)
   went_call old new site v adds legal = went_adds asked old new (Call g.q g.key site g.args v) adds legal (λ p other. refl)

@@ -11,7 +11,7 @@ use Rattle.hb_tables.specs.declared.entry.Act.{Act}
 use Rattle.hb_tables.specs.Frames.{KeepsHold}
 use Rattle.hb_tables.specs.Names.{name_of}
 use Rattle.hb_call.specs.declared.answers.Answer.{Answer}
-use Rattle.hb_call.specs.Calling.{AreTrue, FitsSince, Given, Moment, Went, Goes, HoldsAnswer, IsAlike, IsAsking}
+use Rattle.hb_call.specs.Calling.{AreParts, AreTrue, FitsSince, Given, Moment, Went, Goes, HoldsAnswer, IsAlike, IsAsking}
 use Rattle.hb_call.specs.GrowthLaws.{each_itself, each_on, prefix_itself, prefix_more, grows_itself, grows_on, rules_on}
 
 pub went_itself : (g : Given) (m : Moment) → Went g m m
@@ -31,14 +31,19 @@ pub keeps_join : (q k : ℕ) (l m : List Act) → KeepsHold q k l → KeepsHold 
 keeps_join q k [] m h i = i
 keeps_join q k (a ∷ l) m h i = (h.0, keeps_join q k l m h.1 i)
 
+pub parts_join : (q : CallNo) (l m : List Act) → AreParts q l → AreParts q m → AreParts q (l ++ m)
+parts_join q [] m h i = i
+parts_join q (a ∷ l) m h i = (h.0, parts_join q l m h.1 i)
+
 pub goes_itself : (g : Given) (m : Moment) → Goes g m m
-goes_itself g m = record { went = went_itself g m; grew = grows_itself g.door.caller m.known m.asked m.log; keeps = tt; begun = λ kinds start b. b }
+goes_itself g m = record { went = went_itself g m; grew = grows_itself g.door.caller m.known m.asked m.log; keeps = tt; parts = tt; begun = λ kinds start b. b }
 
 pub goes_on : (g : Given) (a b c : Moment) → Goes g a b → Goes g b c → Goes g a c
 goes_on g a b c p q = record {
   went = went_on g a b c p.went q.went;
   grew = grows_on g.door.caller b.known c.known a.asked b.asked c.asked a.log b.log c.log p.grew q.grew q.went.named;
   keeps = keeps_join g.q.0 g.key.0 p.grew.made q.grew.made p.keeps q.keeps;
+  parts = parts_join g.q p.grew.made q.grew.made p.parts q.parts;
   begun = λ kinds start x. q.begun kinds start (p.begun kinds start x);
 }
 

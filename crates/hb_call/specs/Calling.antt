@@ -1,5 +1,5 @@
 -- A call that is being decided: what it answers while its body is checked, and what is kept.
-use Rattle.std.specs.Prelude.{◌≡◌, ℕ, ◌+◌, ◌<◌, ◌≤◌, ◌⊎◌, false, List, [], ◌∷◌, ◌++◌, length, map, slice_get, Option, Some, None, nat_eq, if◌then◌else◌}
+use Rattle.std.specs.Prelude.{◌≡◌, ℕ, ◌+◌, ◌<◌, ◌≤◌, ◌⊎◌, Bool, true, false, List, [], ◌∷◌, ◌++◌, length, map, slice_get, Option, Some, None, nat_eq, if◌then◌else◌}
 use mathlib.Core.List.{IsPrefix}
 use Rattle.hb_types.specs.declared.types.TheConstants.{PARAMS_MAX}
 use Rattle.hb_types.specs.declared.types.Ty.{Ty}
@@ -8,18 +8,20 @@ use Rattle.hb_types.specs.declared.ids.ClassId.{ClassId}
 use Rattle.hb_types.specs.declared.ids.KeyId.{KeyId}
 use Rattle.hb_types.specs.declared.ids.TypeSite.{TypeSite}
 use Rattle.hb_tree.specs.Table.{Table}
+use Rattle.hb_cache.specs.declared.kept.Kept.{Kept}
 use Rattle.hb_check.specs.Asked.{Asked, Refusal, asked, refusal}
 use Rattle.hb_names.specs.Names.{Name, Differ, IsFull, place}
 use Rattle.hb_names.specs.declared.names.TheConstants.{NAMES_MAX}
 use Rattle.hb_check.specs.declared.lookup.LookFail.TheVariants as look
 use Rattle.hb_tables.specs.declared.entry.Entry.{Entry}
 use Rattle.hb_tables.specs.declared.entry.Act.{Act}
-use Rattle.hb_tables.specs.declared.entry.Act.TheVariants.{Hold}
+use Rattle.hb_tables.specs.declared.entry.Act.TheVariants.{Hold, Free, Retype, Busy, WornType, Define, WornDef, Call}
 use Rattle.hb_tables.specs.declared.entry.ArgKinds.{ArgKinds}
 use Rattle.hb_tables.specs.Answers.{Fixed, IsLookAt}
+use Rattle.hb_tables.specs.declared.desk.Held.{Held}
 use Rattle.hb_tables.specs.declared.desk.Look.{Look}
 use Rattle.hb_types.specs.declared.ids.BodySite.{BodySite}
-use Rattle.hb_tables.specs.Frames.{acts, KeepsHold}
+use Rattle.hb_tables.specs.Frames.{acts, KeepsHold, StaysLive}
 use Rattle.hb_tables.specs.History.{spot, times, Adds, IsLegal}
 use Rattle.hb_tables.specs.Names.{name_of}
 use Rattle.hb_call.specs.declared.answers.Answer.{Answer}
@@ -30,7 +32,7 @@ use Rattle.hb_call.specs.Growth.{EachNew, Grown, Grows}
 use Rattle.hb_call.specs.Rules.{Began, FitsRules, HadBody, IsWhole, runs}
 
 abbrev pub answers_of : List Answer → List Asked
-answers_of answers = map (λ a. asked a.class a.name a.site) answers
+answers_of answers = map (λ a. asked a.class a.name a.held.ty) answers
 
 abbrev pub refusal_of : Option Refused → Option Refusal
 refusal_of None = None
@@ -41,19 +43,24 @@ abbrev pub IsAmong : ℕ → List Answer → Type 0
 IsAmong k [] = ⊥
 IsAmong k (a ∷ answers) = (k ≡ a.key.0) ⊎ IsAmong k answers
 
--- the type that an answer tells of a key
-abbrev pub type_among : List Answer → ℕ → Option (Option TypeSite)
-type_among [] k = None
-type_among (a ∷ answers) k = if nat_eq a.key.0 k then Some a.site else type_among answers k
+-- what an answer tells of a key
+abbrev pub held_among : List Answer → ℕ → Option Held
+held_among [] k = None
+held_among (a ∷ answers) k = if nat_eq a.key.0 k then Some a.held else held_among answers k
 
--- the call x holds the key, and this is its type
-abbrev pub HasType : List Entry → ℕ × ℕ → ℕ → Option TypeSite → Type 0
-HasType log x k ty = (times x (spot k log).calls ≡ 1) × (ty ≡ (spot k log).ty)
+-- the key is one of these
+abbrev pub has_key : List KeyId → ℕ → Bool
+has_key [] k = false
+has_key (key ∷ keys) k = if nat_eq key.0 k then true else has_key keys k
+
+-- the call x holds the key, and these are its type and its count
+abbrev pub HasType : List Entry → ℕ × ℕ → ℕ → Held → Type 0
+HasType log x k held = (times x (spot k log).calls ≡ 1) × (held.ty ≡ (spot k log).ty) × (held.changes ≡ (spot k log).changes)
 
 -- each answer is the type of its method's key, which the call x holds
 abbrev pub AreTrue : Table → List Name → List Entry → ℕ × ℕ → List Answer → Type 0
 AreTrue t names log x [] = Unit {0}
-AreTrue t names log x (a ∷ answers) = (place names (name_of t (a.class.0, a.name.0)) ≡ Some a.key.0) × HasType log x a.key.0 a.site × AreTrue t names log x answers
+AreTrue t names log x (a ∷ answers) = (place names (name_of t (a.class.0, a.name.0)) ≡ Some a.key.0) × HasType log x a.key.0 a.held × AreTrue t names log x answers
 
 -- the name of the key was asked for
 pub record IsAskedFor (names asked : List Name) (k : ℕ) : Type 0 where
@@ -63,7 +70,7 @@ pub record IsAskedFor (names asked : List Name) (k : ℕ) : Type 0 where
   pub there : place asked name ≡ Some at
 
 -- What is kept while the call q of the caller c is decided: it holds its own key and those that it answered for, and no others. The names of these were asked for.
-pub record IsCalling (t : Table) (door : Fixed) (q : ℕ) (names asked : List Name) (log : List Entry) (key : KeyId) (own : Option TypeSite) (held : List KeyId) (answers : List Answer) : Type 0 where
+pub record IsCalling (t : Table) (door : Fixed) (q : ℕ) (names asked : List Name) (log : List Entry) (key : KeyId) (own : Held) (held : List KeyId) (answers : List Answer) : Type 0 where
   pub legal : IsLegal door.limit log
   pub room : HasRoom log door.caller q
   pub holds : Holds door.caller q held log
@@ -74,9 +81,9 @@ pub record IsCalling (t : Table) (door : Fixed) (q : ℕ) (names asked : List Na
   pub asked_for : (k : ℕ) → times (door.caller, q) (spot k log).calls ≡ 1 → IsAskedFor names asked k
   pub whole : IsWhole door.caller q log
 
--- The call held the key before, or holds it from here on. This is its type.
-abbrev pub IsHeldFrom : ℕ → CallNo → KeyId → Option TypeSite → List Entry → List Entry → Type 0
-IsHeldFrom c q key ty old new = ((new ≡ old) × HasType old (c, q.0) key.0 ty) ⊎ ((n : ℕ) × Adds c old new (Hold q key ty n))
+-- The call held the key before, or holds it from here on. This is what the hold found.
+abbrev pub IsHeldFrom : ℕ → CallNo → KeyId → Held → List Entry → List Entry → Type 0
+IsHeldFrom c q key held old new = ((new ≡ old) × HasType old (c, q.0) key.0 held) ⊎ Adds c old new (Hold q key held.ty held.changes)
 
 -- where the list of names was full for a method, it is so, and the method's name is none of them
 abbrev pub IsRefusedRightly : Table → List Name → Option Refused → Type 0
@@ -95,14 +102,36 @@ pub record Given : Type 0 where
   pub door : Fixed
   pub q : CallNo
   pub key : KeyId
-  pub own : Option TypeSite
+  pub own : Held
   pub class : ClassId
   pub args : ArgKinds
+  pub cache : List (Option Kept)
   pub desk : ℕ
   pub names : ℕ
+  pub answers : ℕ
 
 abbrev pub IsSame : Given → Given → Type 0
 IsSame g h = g ≡ h
+
+-- the list goes on with acts among which the call frees nothing
+abbrev pub IsLive : ℕ → ℕ → List Entry → List Entry → Type 0
+IsLive c q old new = (rest : List Entry) × (old ++ rest ≡ new) × StaysLive q (acts c rest)
+
+-- the act is a Hold or a Free of the call q
+abbrev pub IsPart : CallNo → Act → Type 0
+IsPart q (Hold p key ty changes) = p ≡ q
+IsPart q (Free p key) = p ≡ q
+IsPart q (Retype key site) = ⊥
+IsPart q (Busy key pins) = ⊥
+IsPart q (WornType key) = ⊥
+IsPart q (Define key site) = ⊥
+IsPart q (WornDef key) = ⊥
+IsPart q (Call p key site args verdict) = ⊥
+
+-- each of the acts is a Hold or a Free of the call q
+abbrev pub AreParts : CallNo → List Act → Type 0
+AreParts q [] = Unit {0}
+AreParts q (a ∷ l) = IsPart q a × AreParts q l
 
 -- the names that are known, those that were asked for, and the entries at one time
 pub record Moment : Type 0 where
@@ -132,6 +161,7 @@ pub record Goes (g : Given) (was is : Moment) : Type 0 where
   pub went : Went g was is
   pub grew : Grows g.door.caller is.known was.asked is.asked was.log is.log
   pub keeps : KeepsHold g.q.0 g.key.0 grew.made
+  pub parts : AreParts g.q grew.made
   pub begun : (kinds : List Ty) (start : List Entry) → Begun g.door.caller g.q g.key kinds start was.log → Begun g.door.caller g.q g.key kinds start is.log
 
 pub record IsAlike (g h : Given) (was is : Moment) : Type 0 where

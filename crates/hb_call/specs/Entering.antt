@@ -6,7 +6,7 @@ use Rattle.hb_types.specs.declared.ids.ClassId.{ClassId}
 use Rattle.hb_types.specs.declared.ids.KeyId.{KeyId}
 use Rattle.hb_types.specs.declared.ids.BodySite.{BodySite}
 use Rattle.hb_tree.specs.Table.{Table}
-use Rattle.hb_names.specs.Names.{Name, place, IsFull}
+use Rattle.hb_names.specs.Names.{Name, place, IsFull, with_name}
 use Rattle.hb_tables.specs.declared.entry.ArgKinds.{ArgKinds}
 use Rattle.hb_tables.specs.declared.entry.Act.{Act}
 use Rattle.hb_tables.specs.declared.entry.Entry.{Entry}
@@ -14,16 +14,22 @@ use Rattle.hb_tables.specs.declared.entry.Verdict.{Verdict}
 use Rattle.hb_tables.specs.declared.entry.Verdict.TheVariants as verdict
 use Rattle.hb_tables.specs.declared.entry.By.TheVariants as by
 use Rattle.hb_tables.specs.Answers.{Fixed}
-use Rattle.hb_tables.specs.Frames.{acts}
+use Rattle.hb_tables.specs.Frames.{acts, StaysLive}
 use Rattle.hb_tables.specs.Rows.{kinds_of}
 use Rattle.hb_call.specs.declared.frame.CallFail.{CallFail}
 use Rattle.hb_call.specs.declared.frame.CallFail.TheVariants as fail
+use Rattle.hb_call.specs.declared.ruling.Ended.{Ended}
+use Rattle.hb_call.specs.declared.ruling.Ended.TheVariants as ended
+use Rattle.hb_call.specs.declared.frame.Frame.{Frame}
+use Rattle.hb_deriv.specs.declared.raw.Derivation.{Derivation}
 use Rattle.hb_call.specs.declared.frame.Entered.{Entered}
 use Rattle.hb_call.specs.declared.frame.Entered.TheVariants as entered
 use Rattle.hb_call.specs.Held.{HasCall, Holds, frees, stands}
 use Rattle.hb_call.specs.Reading.{call_of, FullAt}
 use Rattle.hb_call.specs.Calling.{Begun, Given}
-use Rattle.hb_call.specs.Deciding.{Decided}
+use Rattle.hb_call.specs.declared.answers.Answer.{Answer}
+use Rattle.hb_call.specs.OwnCache.{IsOwnCache}
+use Rattle.hb_call.specs.Deciding.{Decided, IsResting}
 use Rattle.hb_call.specs.Rules.{IsFullRightly}
 
 -- who calls what, with which arguments
@@ -93,7 +99,7 @@ IsRightlyFor t names c q key log fail.Full = IsFullRightly t names c q key log
 IsRightlyFor t names c q key log fail.NoMemory = Unit {0}
 
 -- the call was decided, or found the list of names full
-abbrev pub IsTold : Result Entered CallFail → Type 0
+abbrev pub IsTold : {X : Type 0} → Result X CallFail → Type 0
 IsTold (Ok e) = Unit {0}
 IsTold (Err fail.Full) = Unit {0}
 IsTold (Err fail.NoMemory) = ⊥
@@ -121,13 +127,56 @@ pub record GaveUp (g : Given) (names : List Name) (old new : List Entry) : Type 
       × ((l : List Act) → call_of g.q.0 g.key.0 (kinds_of g.args) (made ++ l) ≡ FullAt l)
   pub none : stands g.door.caller g.q.0 new ≡ []
 
-abbrev pub Finished : Given → List Name → List Entry → List Entry → Result Entered CallFail → Type 0
-Finished g names old new (Ok (entered.Frame f way)) = (f.q ≡ g.q) × (f.key ≡ g.key) × IsFinished g names old new (verdict.Enter way) (Some f.body) f.held.items
-Finished g names old new (Ok (entered.Refused v)) = GaveBack g names old new v
+abbrev pub Finished : Given → List Name → List Entry → List Entry → Result Ended CallFail → Type 0
+Finished g names old new (Ok (ended.Own f)) = (f.q ≡ g.q) × (f.key ≡ g.key) × IsFinished g names old new (verdict.Enter by.Own) (Some f.body) f.held.items
+Finished g names old new (Ok (ended.Fresh f d)) = (f.q ≡ g.q) × (f.key ≡ g.key) × IsFinished g names old new (verdict.Enter by.Fresh) (Some f.body) f.held.items
+Finished g names old new (Ok (ended.Refused v)) = GaveBack g names old new v
 Finished g names old new (Err fail.Full) = GaveUp g names old new
 Finished g names old new (Err fail.NoMemory) = stands g.door.caller g.q.0 new ≡ []
 
--- A frame of the call q holds these keys behind its Call. It was checked afresh.
+-- A frame of the call q holds these keys behind its Call.
 abbrev pub IsFramed : ℕ → CallNo → List Entry → Entered → Type 0
-IsFramed c q log (entered.Frame f way) = (way ≡ by.Fresh) × (f.q ≡ q) × Holds c q.0 f.held.items log × HasCall c q.0 log
+IsFramed c q log (entered.Frame f way) = (f.q ≡ q) × Holds c q.0 f.held.items log × HasCall c q.0 log
 IsFramed c q log (entered.Refused v) = Unit {0}
+
+-- what its caller is told of a call that ended so
+abbrev pub entered_of : Ended → Entered
+entered_of (ended.Own f) = entered.Frame f by.Own
+entered_of (ended.Fresh f d) = entered.Frame f by.Fresh
+entered_of (ended.Refused v) = entered.Refused v
+
+abbrev pub entered_by : Result Ended CallFail → Result Entered CallFail
+entered_by (Ok e) = Ok (entered_of e)
+entered_by (Err cause) = Err cause
+
+-- The call ended with a check, and gave back all that it held.
+pub record IsUndone (c : ℕ) (old new : List Entry) (e : Ended) : Type 0 where
+  pub frame : Frame
+  pub d : Derivation
+  pub is : e ≡ ended.Fresh frame d
+  pub none : stands c frame.q.0 new ≡ []
+  pub others : (p : ℕ) → (p ≡ frame.q.0 → ⊥) → stands c p new ≡ stands c p old
+
+-- the frame holds its keys, where a check was made
+abbrev pub MayUndo : ℕ → List Entry → Ended → Type 0
+MayUndo c log (ended.Own f) = Unit {0}
+MayUndo c log (ended.Fresh f d) = Holds c f.q.0 f.held.items log
+MayUndo c log (ended.Refused v) = Unit {0}
+
+-- the frame of the call q holds its keys behind its Call, where its body may run
+abbrev pub IsEndedWell : ℕ → CallNo → List Entry → Ended → Type 0
+IsEndedWell c q log (ended.Own f) = (f.q ≡ q) × Holds c q.0 f.held.items log × HasCall c q.0 log
+IsEndedWell c q log (ended.Fresh f d) = (f.q ≡ q) × Holds c q.0 f.held.items log × HasCall c q.0 log
+IsEndedWell c q log (ended.Refused v) = Unit {0}
+
+-- What is kept is the caller's own behind the call, but where a check was made: then it was so before the Call.
+abbrev pub IsOwnAtEnd : Given → (known asked : List Name) → List Entry → List Answer → Result Ended CallFail → Type 0
+IsOwnAtEnd g known asked new answers (Ok (ended.Own f)) = IsOwnCache g.t known asked g.door.caller new g.cache
+IsOwnAtEnd g known asked new answers (Ok (ended.Fresh f d)) = (f.q ≡ g.q) × (f.key ≡ g.key) × (f.body ≡ d.body) × IsResting g known asked new f.held.items answers d
+IsOwnAtEnd g known asked new answers (Ok (ended.Refused v)) = IsOwnCache g.t known asked g.door.caller new g.cache
+IsOwnAtEnd g known asked new answers (Err cause) = IsOwnCache g.t known asked g.door.caller new g.cache
+
+-- Where the body is entered by the caller's own check, and the call gave nothing back, the name of its method alone was asked for.
+abbrev pub MarksOnce : Asks → (was asked : List Name) → List Entry → List Entry → Result Entered CallFail → Type 0
+MarksOnce a was asked old new (Ok (entered.Frame f by.Own)) = (made : List Act) → acts a.door.caller new ≡ acts a.door.caller old ++ made → StaysLive a.q.0 made → asked ≡ with_name was (a.class.0, a.bytes)
+MarksOnce a was asked old new _ = Unit {0}

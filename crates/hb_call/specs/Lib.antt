@@ -1,11 +1,17 @@
 pub mod Reading
 pub mod Held
 pub mod Causes
+pub mod Own
+pub mod OwnCache
 pub mod Calling
 pub mod Deciding
+pub mod Comparing
 pub mod Alike
 pub mod Entering
+pub mod Sharing
+pub mod Keeping
 pub mod Rules
 pub mod Growth
 pub mod GrowthLaws
 pub mod Seen
+pub mod OwnLaws

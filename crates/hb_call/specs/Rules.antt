@@ -13,8 +13,10 @@ use Rattle.hb_names.specs.declared.names.TheConstants.{NAMES_MAX}
 use Rattle.hb_tables.specs.declared.entry.Entry.{Entry}
 use Rattle.hb_tables.specs.declared.entry.Act.{Act}
 use Rattle.hb_tables.specs.declared.entry.Act.TheVariants.{Hold, Free, Retype, Busy, WornType, Define, WornDef, Call}
-use Rattle.hb_tables.specs.declared.entry.Verdict.TheVariants.{Enter}
-use Rattle.hb_tables.specs.declared.entry.By.TheVariants.{Fresh}
+use Rattle.hb_tables.specs.declared.entry.Verdict.{Verdict}
+use Rattle.hb_tables.specs.declared.entry.Verdict.TheVariants as verdict
+use Rattle.hb_tables.specs.declared.entry.By.{By}
+use Rattle.hb_tables.specs.declared.entry.By.TheVariants as by
 use Rattle.hb_tables.specs.History.{spot, times, entry}
 use Rattle.hb_tables.specs.Standing.{Stand}
 use Rattle.hb_tables.specs.Frames.{acts, KeepsHold}
@@ -22,6 +24,7 @@ use Rattle.hb_tables.specs.Names.{name_of}
 use Rattle.hb_tables.specs.Rows.{FitsCall, HoldsName, body_at, type_of_key, types_in}
 use Rattle.hb_tables.specs.Verdicts.{looks_of}
 use Rattle.hb_call.specs.Held.{HasCall, stands}
+use Rattle.hb_call.specs.Own.{OwnAgrees}
 
 -- The call q of the caller c began with a Hold of the key, which ends the list `start`. It held nothing before it, and has not freed the key since.
 pub record Began (c : ℕ) (q : CallNo) (key : KeyId) (start log : List Entry) : Type 0 where
@@ -164,16 +167,36 @@ HasName names (Define key site) = key.0 < length names
 HasName names (WornDef key) = key.0 < length names
 HasName names (Call q key site args verdict) = Unit {0}
 
--- a body is entered on a fresh check
-abbrev pub EntersFresh : Act → Type 0
-EntersFresh (Call q key site args (Enter way)) = way ≡ Fresh
-EntersFresh _ = Unit {0}
+-- a body is entered by the caller's own check exactly where there is one that agrees, and else by a fresh one
+abbrev pub IsWay : ℕ → ℕ → List Entry → By → Type 0
+IsWay c k before by.Own = OwnAgrees c k before
+IsWay c k before by.Fresh = OwnAgrees c k before → ⊥
+IsWay c k before by.Shared = ⊥
 
--- A Call is decided as its row says and enters on a fresh check, keys are those of names and are held in the order of the looks, and are given back in a retreat or at the end alone.
+-- the way of a verdict that enters is the right one
+abbrev pub IsRightWay : ℕ → ℕ → List Entry → Verdict → Type 0
+IsRightWay c k before (verdict.Enter way) = IsWay c k before way
+IsRightWay c k before verdict.NoBody = Unit {0}
+IsRightWay c k before verdict.NoType = Unit {0}
+IsRightWay c k before verdict.BadArgs = Unit {0}
+IsRightWay c k before (verdict.IllTyped f) = Unit {0}
+
+-- a Call that enters does so by the caller's own check exactly where there is one that agrees
+abbrev pub EntersBy : ℕ → List Entry → Act → Type 0
+EntersBy c before (Call q key site args v) = IsRightWay c key.0 before v
+EntersBy c before (Hold q key ty changes) = Unit {0}
+EntersBy c before (Free q key) = Unit {0}
+EntersBy c before (Retype key site) = Unit {0}
+EntersBy c before (Busy key pins) = Unit {0}
+EntersBy c before (WornType key) = Unit {0}
+EntersBy c before (Define key site) = Unit {0}
+EntersBy c before (WornDef key) = Unit {0}
+
+-- A Call is decided as its row says and enters by its caller's own check exactly where one agrees, keys are those of names and are held in the order of the looks, and are given back in a retreat or at the end alone.
 pub record FitsRules (t : Table) (names : List Name) (c : ℕ) (before : List Entry) (a : Act) : Type 0 where
   pub row : FitsCall t names c before a
   pub hold : FitsHold t names c before a
   pub free : FitsFree t names c before a
   pub whole : FitsWhole c before a
   pub named : HasName names a
-  pub fresh : EntersFresh a
+  pub entered : EntersBy c before a

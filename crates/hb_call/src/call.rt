@@ -1,6 +1,6 @@
 //! A call that is being decided.
 
-ghost use Rattle.std.specs.Prelude.{◌≡◌, ◌<◌, ℕ, List, [], ◌∷◌, ◌++◌, None, Some, IfErr, IfOk, IfSome, IsErrOf, OnErr, OnOk};
+ghost use Rattle.std.specs.Prelude.{◌≡◌, ◌<◌, ◌≤◌, ℕ, length, List, [], ◌∷◌, ◌++◌, None, Some, IfErr, IfOk, IfSome, IsErrOf, OnErr, OnOk};
 ghost use Rattle.hb_types.specs.Types.{IsMethodTy};
 ghost use Rattle.hb_types.specs.declared.ids.ClassId.{ClassId};
 ghost use Rattle.hb_types.specs.declared.ids.NameId.{NameId};
@@ -12,19 +12,22 @@ ghost use Rattle.hb_tables.specs.Rows.{kinds_of};
 ghost use Rattle.hb_tables.specs.Verdicts.{takes};
 ghost use Rattle.hb_call.specs.Held.{Holds, frees};
 ghost use Rattle.hb_tables.specs.declared.entry.Entry.{Entry};
-ghost use Rattle.hb_tables.specs.Frames.{StaysLive, acts};
-ghost use Rattle.hb_call.specs.Calling.{FitsSince, Grew, HasBody, HasLooked, IsArgKinds, IsAskedFor, IsCalling, IsHeldFrom, IsRefusedRightly, IsSame, MayRetreat, Went, answers_of};
-ghost use Rattle.hb_call.specs.Deciding.{Decided, IsFresh, IsVerdictBy, told};
-ghost use Rattle.hb_call.specs.Entering.{Finished, IsFramed, IsFullFor, IsRightlyFor, IsTold};
-ghost use Rattle.hb_call.specs.Seen.{AsksOn, GoesOn, HasSpare, IsUnderWay, given_of, moment_of};
+ghost use Rattle.hb_tables.specs.Frames.{acts};
+ghost use Rattle.hb_call.specs.Calling.{FitsSince, Grew, HasBody, HasLooked, IsArgKinds, IsAskedFor, IsCalling, IsHeldFrom, IsLive, IsRefusedRightly, IsSame, MayRetreat, Went, answers_of, held_among};
+ghost use Rattle.hb_call.specs.Comparing.{AsksNoMore, EndsAsking, MarksKept};
+ghost use Rattle.hb_call.specs.Deciding.{Decided, IsOwnBehind, site_by, verdict_by};
+ghost use Rattle.hb_call.specs.Entering.{Finished, IsEndedWell, IsFullFor, IsOwnAtEnd, IsRightlyFor, IsTold};
+ghost use Rattle.hb_call.specs.Seen.{AsksOn, GoesOn, HasSpare, IsHolding, IsRuledNow, IsUnderWay, KeepsOwn, given_of, moment_of};
 
 use crate::answers::{Answer, Refused, found};
-use crate::frame::{CallFail, Entered, Frame, free_keys};
+use crate::frame::{CallFail, Frame, free_keys};
+use crate::ruling::{Ended, Ruling};
+use hb_cache::Cache;
+use hb_check::all_below;
 use hb_check::lookup::{LookFail, Lookup};
-use hb_check::{Checked, all_below, check};
 use hb_names::{NAMES_MAX, NameFail, Names};
-use hb_tables::desk::{Desk, Look};
-use hb_tables::entry::{ArgKinds, By, Verdict};
+use hb_tables::desk::{Desk, Held, Look};
+use hb_tables::entry::{ArgKinds, Verdict};
 use hb_tree::limits::TYPES_MAX;
 use hb_tree::program::Program;
 use hb_types::ids::{BodySite, CallNo, ClassId, KeyId, NameId, TypeSite};
@@ -45,8 +48,12 @@ pub struct Call<'p, 'd, 'n, 'k, D: Desk, N: Names> {
     pub held: &'k mut Vec<KeyId>,
     /// The called method.
     pub key: KeyId,
-    /// The type that the hold of this key found.
-    pub own: Option<TypeSite>,
+    /// What the hold of this key found.
+    pub own: Held,
+    /// What the script keeps of its checks.
+    pub cache: &'k Cache,
+    /// What a comparison with a check that is kept found, where the types had changed.
+    pub compared: &'k mut Vec<Answer>,
     /// What the check of the body was answered.
     pub answers: &'k mut Vec<Answer>,
     pub refused: Option<Refused>,
@@ -54,15 +61,13 @@ pub struct Call<'p, 'd, 'n, 'k, D: Desk, N: Names> {
 
 impl<D: Desk, N: Names> Call<'_, '_, '_, '_, D, N> {
     /// Decides the call, by the definition that was looked at, or by a newer one that is there by then.
-    pub fn decide(
-        &mut self,
-        alloc: Global,
-        first: Look,
-    ) -> Result<(Verdict, Option<BodySite>), CallFail>
+    pub fn decide(&mut self, alloc: Global, first: Look) -> Result<Ruling, CallFail>
         requires calling { IsUnderWay D.fixed D.front N.known N.asked self.old }
         requires args { IsArgKinds self.old.args }
-        requires fresh { (self.old.answers.now.items ≡ []) × (self.old.refused ≡ None) }
+        requires fresh { (self.old.answers.now.items ≡ []) × (self.old.compared.now.items ≡ []) × (self.old.refused ≡ None) }
         requires named { (bytes : List ℕ) × (place (N.known self.old.names.now) (self.old.class.0, bytes) ≡ Some self.old.key.0) }
+        requires own { KeepsOwn D.fixed D.front N.known N.asked self.old }
+        requires few { length (N.known self.old.names.now) ≤ NAMES_MAX }
         requires looked { HasLooked (D.fixed self.old.desk.now).caller self.old.q self.old.key first (D.front self.old.desk.now) }
         ensures same { IsSame (given_of D.fixed self.old) (given_of D.fixed self.new) }
         ensures desk { self.new.desk.ghost_name ≡ self.old.desk.ghost_name }
@@ -73,19 +78,22 @@ impl<D: Desk, N: Names> Call<'_, '_, '_, '_, D, N> {
         ensures goes { OnErr result (GoesOn D.fixed D.front N.known N.asked self.old self.new) }
         ensures holds { Holds (D.fixed self.new.desk.now).caller self.new.q.0 self.new.held.now.items (D.front self.new.desk.now) }
         ensures first { (others : List KeyId) × (self.new.held.now.items ≡ self.new.key ∷ others) }
-        ensures decided { IfOk result (λ r. Decided (given_of D.fixed self.new) (N.known self.new.names.now) (D.front self.old.desk.now) (D.front self.new.desk.now) r.0 r.1) }
+        ensures decided { IfOk result (λ r. Decided (given_of D.fixed self.new) (N.known self.new.names.now) (D.front self.old.desk.now) (D.front self.new.desk.now) (verdict_by r) (site_by r)) }
+        ensures own { IsOwnBehind (given_of D.fixed self.new) (N.known self.new.names.now) (N.asked self.new.names.now) (D.front self.new.desk.now) self.new.held.now.items self.new.answers.now.items result }
+        ensures asks { IfOk result (AsksNoMore (given_of D.fixed self.old) (moment_of D.front N.known N.asked self.old) (moment_of D.front N.known N.asked self.new)) }
         ensures full { IfErr result (IsFullFor (N.known self.new.names.now)) }
         ensures rightly { IfErr result (IsRightlyFor self.new.prog.now (N.known self.new.names.now) (D.fixed self.new.desk.now).caller self.new.q self.new.key (D.front self.new.desk.now)) }
     {
         let mut look = first;
         loop {
-            let verdict = self.verdict(alloc, look.site)?;
+            let ruling = self.ruling(alloc, look.site)?;
             self.desk.reserve(alloc, 1)?;
+            let verdict = ruling.verdict();
             match self
                 .desk
                 .decide(self.q, self.key, self.key, look, self.args, verdict)
             {
-                Ok(()) => return Ok((verdict, look.site)),
+                Ok(()) => return Ok(ruling),
                 Err(newer) => {
                     self.retreat();
                     look = newer;
@@ -95,88 +103,111 @@ impl<D: Desk, N: Names> Call<'_, '_, '_, '_, D, N> {
     }
 
     /// Decides the call, and frees what it holds where its body may not run.
-    pub fn finish(&mut self, alloc: Global, first: Look) -> Result<Entered, CallFail>
+    pub fn finish(&mut self, alloc: Global, first: Look) -> Result<Ended, CallFail>
         requires calling { IsUnderWay D.fixed D.front N.known N.asked self.old }
         requires args { IsArgKinds self.old.args }
-        requires fresh { (self.old.answers.now.items ≡ []) × (self.old.refused ≡ None) }
+        requires fresh { (self.old.answers.now.items ≡ []) × (self.old.compared.now.items ≡ []) × (self.old.refused ≡ None) }
         requires named { (bytes : List ℕ) × (place (N.known self.old.names.now) (self.old.class.0, bytes) ≡ Some self.old.key.0) }
+        requires own { KeepsOwn D.fixed D.front N.known N.asked self.old }
+        requires few { length (N.known self.old.names.now) ≤ NAMES_MAX }
         requires looked { HasLooked (D.fixed self.old.desk.now).caller self.old.q self.old.key first (D.front self.old.desk.now) }
         ensures desk { self.new.desk.ghost_name ≡ self.old.desk.ghost_name }
         ensures names { self.new.names.ghost_name ≡ self.old.names.ghost_name }
+        ensures answers { self.new.answers.ghost_name ≡ self.old.answers.ghost_name }
         ensures alike { N.alike self.old.names.now self.new.names.now }
         ensures fixed { D.fixed self.new.desk.now ≡ D.fixed self.old.desk.now }
         ensures went { Went (given_of D.fixed self.old) (moment_of D.front N.known N.asked self.old) (moment_of D.front N.known N.asked self.new) }
         ensures grew { IsTold result → Grew (given_of D.fixed self.old) (moment_of D.front N.known N.asked self.old) (moment_of D.front N.known N.asked self.new) }
         ensures finished { Finished (given_of D.fixed self.old) (N.known self.new.names.now) (D.front self.old.desk.now) (D.front self.new.desk.now) result }
-        ensures framed { IfOk result (IsFramed (D.fixed self.old.desk.now).caller self.old.q (D.front self.new.desk.now)) }
+        ensures ended { IfOk result (IsEndedWell (D.fixed self.old.desk.now).caller self.old.q (D.front self.new.desk.now)) }
+        ensures asks { IfOk result (EndsAsking (given_of D.fixed self.old) (moment_of D.front N.known N.asked self.old) (moment_of D.front N.known N.asked self.new)) }
+        ensures own { IsOwnAtEnd (given_of D.fixed self.old) (N.known self.new.names.now) (N.asked self.new.names.now) (D.front self.new.desk.now) self.new.answers.now.items result }
     {
-        let decided = self.decide(alloc, first);
-        if let Ok((Verdict::Enter(way), Some(body))) = decided {
-            let held = mem::replace(self.held, Vec::new(alloc));
-            let frame = Frame {
-                q: self.q,
-                key: self.key,
-                body,
-                held,
-            };
-            return Ok(Entered::Frame(frame, way));
-        }
-        free_keys(self.desk, self.q, self.held);
-        match decided {
-            Ok((verdict, _)) => Ok(Entered::Refused(verdict)),
-            Err(cause) => Err(cause),
+        match self.decide(alloc, first) {
+            Ok(Ruling::Kept(body)) => Ok(Ended::Own(self.frame(alloc, body))),
+            Ok(Ruling::Checked(derivation)) => {
+                Ok(Ended::Fresh(self.frame(alloc, derivation.body), derivation))
+            }
+            Ok(Ruling::Refused(_, verdict)) => {
+                free_keys(self.desk, self.q, self.held);
+                Ok(Ended::Refused(verdict))
+            }
+            Err(cause) => {
+                free_keys(self.desk, self.q, self.held);
+                Err(cause)
+            }
         }
     }
 
-    // The verdict on the call with this definition. The keys on which it rests are held.
-    fn verdict(&mut self, alloc: Global, site: Option<BodySite>) -> Result<Verdict, CallFail>
+    // The frame of the call, which takes the keys over.
+    fn frame(&mut self, alloc: Global, body: BodySite) -> Frame
+        ensures frame { (result.q ≡ self.old.q) × (result.key ≡ self.old.key) × (result.body ≡ body) × (result.held ≡ self.old.held.now) }
+        ensures desk { self.new.desk ≡ self.old.desk }
+        ensures names { self.new.names ≡ self.old.names }
+        ensures answers { self.new.answers ≡ self.old.answers }
+    {
+        Frame {
+            q: self.q,
+            key: self.key,
+            body,
+            held: mem::replace(self.held, Vec::new(alloc)),
+        }
+    }
+
+    // What the call comes to with this definition. The keys on which that rests are held.
+    fn ruling(&mut self, alloc: Global, site: Option<BodySite>) -> Result<Ruling, CallFail>
         requires calling { IsUnderWay D.fixed D.front N.known N.asked self.old }
         requires args { IsArgKinds self.old.args }
-        requires fresh { (self.old.answers.now.items ≡ []) × (self.old.refused ≡ None) }
+        requires fresh { (self.old.answers.now.items ≡ []) × (self.old.compared.now.items ≡ []) × (self.old.refused ≡ None) }
         requires named { (bytes : List ℕ) × (place (N.known self.old.names.now) (self.old.class.0, bytes) ≡ Some self.old.key.0) }
+        requires own { KeepsOwn D.fixed D.front N.known N.asked self.old }
+        requires few { length (N.known self.old.names.now) ≤ NAMES_MAX }
         requires defined { HasBody (D.fixed self.old.desk.now).caller self.old.q self.old.key site (D.front self.old.desk.now) }
-        ensures calling { IsUnderWay D.fixed D.front N.known N.asked self.new }
+        ensures holding { IsHolding D.fixed D.front N.known N.asked self.new }
         ensures alike { GoesOn D.fixed D.front N.known N.asked self.old self.new }
         ensures names { N.alike self.old.names.now self.new.names.now }
-        ensures verdict { IfOk result (IsVerdictBy self.new.prog.now self.new.class.0 site self.new.own (kinds_of self.new.args) (answers_of self.new.answers.now.items)) }
-        ensures fresh { IfOk result IsFresh }
-        ensures live { (rest : List Entry) × (D.front self.old.desk.now ++ rest ≡ D.front self.new.desk.now) × StaysLive self.old.q.0 (acts (D.fixed self.old.desk.now).caller rest) }
+        ensures ruled { IfOk result (IsRuledNow D.fixed D.front N.known N.asked self.new site) }
+        ensures marks { IfOk result (MarksKept self.new.key self.new.cache.now self.new.held.now.items) }
+        ensures live { IsLive (D.fixed self.old.desk.now).caller self.old.q.0 (D.front self.old.desk.now) (D.front self.new.desk.now) }
         ensures rules { FitsSince (given_of D.fixed self.old) (moment_of D.front N.known N.asked self.old) (moment_of D.front N.known N.asked self.new) }
         ensures full { IfErr result (IsFullFor (N.known self.new.names.now)) }
         ensures rightly { IfErr result (IsRightlyFor self.new.prog.now (N.known self.new.names.now) (D.fixed self.new.desk.now).caller self.new.q self.new.key (D.front self.new.desk.now)) }
     {
         let Some(body) = site else {
-            return Ok(Verdict::NoBody);
+            return Ok(Ruling::Refused(site, Verdict::NoBody));
         };
         if body.0 as usize >= self.prog.bodies() {
-            return Ok(Verdict::NoBody);
+            return Ok(Ruling::Refused(site, Verdict::NoBody));
         }
-        let Some(declared) = self.own else {
-            return Ok(Verdict::NoType);
+        let Some(declared) = self.own.ty else {
+            return Ok(Ruling::Refused(site, Verdict::NoType));
         };
         if declared.0 as usize >= self.prog.types() {
-            return Ok(Verdict::NoType);
+            return Ok(Ruling::Refused(site, Verdict::NoType));
         }
         if !takes(&self.prog.type_of(declared), &self.args) {
-            return Ok(Verdict::BadArgs);
+            return Ok(Ruling::Refused(site, Verdict::BadArgs));
         }
-        let found = check(alloc, self.prog, self.class, body, declared, self)?;
-        Ok(told(found))
+        if self.agrees(alloc, body)? {
+            return Ok(Ruling::Kept(body));
+        }
+        self.checked(alloc, body, declared)
     }
 
     // Gives back all keys but the called method's own.
     fn retreat(&mut self)
-        requires calling { IsUnderWay D.fixed D.front N.known N.asked self.old }
+        requires holding { IsHolding D.fixed D.front N.known N.asked self.old }
         requires may { MayRetreat (D.fixed self.old.desk.now).caller self.old.q self.old.key (D.front self.old.desk.now) }
         ensures calling { IsUnderWay D.fixed D.front N.known N.asked self.new }
         ensures alike { GoesOn D.fixed D.front N.known N.asked self.old self.new }
         ensures names { self.new.names ≡ self.old.names }
         ensures freed { (others : List KeyId) × (acts (D.fixed self.old.desk.now).caller (D.front self.new.desk.now) ≡ acts (D.fixed self.old.desk.now).caller (D.front self.old.desk.now) ++ frees self.old.q others) }
         ensures rules { FitsSince (given_of D.fixed self.old) (moment_of D.front N.known N.asked self.old) (moment_of D.front N.known N.asked self.new) }
-        ensures fresh { (self.new.answers.now.items ≡ []) × (self.new.refused ≡ None) }
+        ensures fresh { (self.new.answers.now.items ≡ []) × (self.new.compared.now.items ≡ []) × (self.new.refused ≡ None) }
     {
         free_keys(self.desk, self.q, &self.held[1..]);
         self.held.truncate(1);
+        self.compared.clear();
         self.answers.clear();
         self.refused = None;
     }
@@ -196,6 +227,7 @@ impl<D: Desk, N: Names> Call<'_, '_, '_, '_, D, N> {
         ensures below { IfOk result (λ site. IfSome site (λ s. s.0 < TYPES_MAX)) }
         ensures answer { IfOk result (λ site. answers_of self.new.answers.now.items ≡ answers_of self.old.answers.now.items ++ asked class name site ∷ []) }
         ensures none { OnErr result (self.new.answers.now.items ≡ self.old.answers.now.items) }
+        ensures compared { self.new.compared.now.items ≡ self.old.compared.now.items }
         ensures refused { self.new.refused ≡ self.old.refused }
         ensures full { IsErrOf result LookFail.Full → IsFull (N.known self.new.names.now) (name_of self.old.prog.now (class.0, name.0)) }
     {
@@ -212,14 +244,14 @@ impl<D: Desk, N: Names> Call<'_, '_, '_, '_, D, N> {
             Err(NameFail::Full) => return Err(LookFail::Full),
             Err(NameFail::NoMemory) => return Err(LookFail::NoMemory),
         };
-        let site = self.type_held(key);
+        let held = self.type_held(key);
         self.answers.push_reserved(Answer {
             class,
             name,
             key,
-            site,
+            held,
         });
-        Ok(site)
+        Ok(held.ty)
     }
 
     // Makes room for one more hold and its answer.
@@ -229,6 +261,7 @@ impl<D: Desk, N: Names> Call<'_, '_, '_, '_, D, N> {
         ensures alike { GoesOn D.fixed D.front N.known N.asked self.old self.new }
         ensures front { D.front self.new.desk.now ≡ D.front self.old.desk.now }
         ensures names { self.new.names ≡ self.old.names }
+        ensures compared { self.new.compared.now.items ≡ self.old.compared.now.items }
         ensures answers { self.new.answers.now.items ≡ self.old.answers.now.items }
         ensures refused { self.new.refused ≡ self.old.refused }
         ensures room { OnOk result (HasSpare D.spare self.new) }
@@ -238,8 +271,18 @@ impl<D: Desk, N: Names> Call<'_, '_, '_, '_, D, N> {
         self.desk.reserve(alloc, 2)
     }
 
+    // What the hold of a key found, where it was compared or answered.
+    fn known(&self, key: KeyId) -> Option<Held>
+        ensures { result ≡ held_among (self.now.compared.now.items ++ self.now.answers.now.items) key.0 }
+    {
+        match found(self.compared, key) {
+            Some(held) => Some(held),
+            None => found(self.answers, key),
+        }
+    }
+
     // The type of a key that the call holds, or that it takes now.
-    fn type_held(&mut self, key: KeyId) -> Option<TypeSite>
+    fn type_held(&mut self, key: KeyId) -> Held
         requires calling { IsUnderWay D.fixed D.front N.known N.asked self.old }
         requires below { key.0 < NAMES_MAX }
         requires asked { IsAskedFor (N.known self.old.names.now) (N.asked self.old.names.now) key.0 }
@@ -247,32 +290,23 @@ impl<D: Desk, N: Names> Call<'_, '_, '_, '_, D, N> {
         ensures same { IsSame (given_of D.fixed self.old) (given_of D.fixed self.new) }
         ensures finds { IsHeldFrom (D.fixed self.old.desk.now).caller self.old.q key result (D.front self.old.desk.now) (D.front self.new.desk.now) }
         ensures calling { (class : ClassId) (name : NameId) → place (N.known self.old.names.now) (name_of self.old.prog.now (class.0, name.0)) ≡ Some key.0
-            → IsCalling self.old.prog.now (D.fixed self.old.desk.now) self.old.q.0 (N.known self.old.names.now) (N.asked self.old.names.now) (D.front self.new.desk.now) self.old.key self.old.own self.new.held.now.items (self.old.answers.now.items ++ record { class = class; name = name; key = key; site = result } ∷ []) }
+            → IsCalling self.old.prog.now (D.fixed self.old.desk.now) self.old.q.0 (N.known self.old.names.now) (N.asked self.old.names.now) (D.front self.new.desk.now) self.old.key self.old.own self.new.held.now.items ((self.old.compared.now.items ++ self.old.answers.now.items) ++ record { class = class; name = name; key = key; held = result } ∷ []) }
         ensures legal { IsLegal (D.fixed self.old.desk.now).limit (D.front self.new.desk.now) }
-        ensures below { IfSome result (λ s. s.0 < TYPES_MAX) }
+        ensures below { IfSome result.ty (λ s. s.0 < TYPES_MAX) }
         ensures names { self.new.names ≡ self.old.names }
+        ensures compared { self.new.compared ≡ self.old.compared }
         ensures answers { self.new.answers ≡ self.old.answers }
         ensures refused { self.new.refused ≡ self.old.refused }
     {
         if key.0 == self.key.0 {
             return self.own;
         }
-        if let Some(site) = found(self.answers, key) {
-            return site;
+        if let Some(held) = self.known(key) {
+            return held;
         }
-        let site = self.desk.hold(self.q, key).ty;
+        let held = self.desk.hold(self.q, key);
         self.held.push_reserved(key);
-        site
-    }
-}
-
-// The verdict that a check comes to.
-fn told(found: Checked) -> Verdict
-    ensures { result ≡ told found }
-{
-    match found {
-        Checked::Good(_) => Verdict::Enter(By::Fresh),
-        Checked::Bad(ill) => Verdict::IllTyped(ill),
+        held
     }
 }
 
@@ -290,7 +324,7 @@ fn takes(ty: &MethodTy, args: &ArgKinds) -> bool
 }
 
 impl<D: Desk, N: Names> Lookup for Call<'_, '_, '_, '_, D, N> {
-    ghost use Rattle.std.proofs.Common.{refl};
+    ghost use Rattle.std.proofs.Common.{refl, ◌∙◌};
     ghost use Rattle.hb_tree.specs.declared.limits.TheConstants.{TYPES_MAX};
     ghost use Rattle.hb_call.specs.Calling.{IsRefusedRightly, answers_of, refusal_of};
     ghost use Rattle.hb_call.specs.Seen.{AsksOn, GoesOn, IsUnderWay, given_of, moment_of};
@@ -302,11 +336,11 @@ impl<D: Desk, N: Names> Lookup for Call<'_, '_, '_, '_, D, N> {
 
     ghost bound = { λ s. TYPES_MAX };
 
-    ghost alike = { λ a b. GoesOn D.fixed D.front N.known N.asked a b × N.alike a.names.now b.names.now × AsksOn D.fixed D.front N.known N.asked a b };
+    ghost alike = { λ a b. GoesOn D.fixed D.front N.known N.asked a b × N.alike a.names.now b.names.now × AsksOn D.fixed D.front N.known N.asked a b × (a.compared.now.items ≡ b.compared.now.items) };
 
-    ghost alike_itself = { λ a. (alike_itself (given_of D.fixed a) (moment_of D.front N.known N.asked a), N.alike_itself a.names.now, asking_itself (given_of D.fixed a) (moment_of D.front N.known N.asked a) a.answers.now.items) };
+    ghost alike_itself = { λ a. (alike_itself (given_of D.fixed a) (moment_of D.front N.known N.asked a), N.alike_itself a.names.now, asking_itself (given_of D.fixed a) (moment_of D.front N.known N.asked a) a.answers.now.items, refl) };
 
-    ghost alike_on = { λ a b c p q. (alike_on (given_of D.fixed a) (given_of D.fixed b) (given_of D.fixed c) (moment_of D.front N.known N.asked a) (moment_of D.front N.known N.asked b) (moment_of D.front N.known N.asked c) p.0 q.0, N.alike_on a.names.now b.names.now c.names.now p.1 q.1, asking_on (given_of D.fixed a) (given_of D.fixed b) (moment_of D.front N.known N.asked a) (moment_of D.front N.known N.asked b) (moment_of D.front N.known N.asked c) a.answers.now.items b.answers.now.items c.answers.now.items p.0.same q.0.goes.went p.2 q.2) };
+    ghost alike_on = { λ a b c p q. (alike_on (given_of D.fixed a) (given_of D.fixed b) (given_of D.fixed c) (moment_of D.front N.known N.asked a) (moment_of D.front N.known N.asked b) (moment_of D.front N.known N.asked c) p.0 q.0, N.alike_on a.names.now b.names.now c.names.now p.1 q.1, asking_on (given_of D.fixed a) (given_of D.fixed b) (moment_of D.front N.known N.asked a) (moment_of D.front N.known N.asked b) (moment_of D.front N.known N.asked c) a.answers.now.items b.answers.now.items c.answers.now.items p.0.same q.0.goes.went p.2 q.2, p.3 ∙ q.3) };
 
     ghost bound_stays = { λ a b e. refl };
 

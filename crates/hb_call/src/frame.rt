@@ -1,6 +1,8 @@
 //! Frames of calls, and what becomes of a call.
 
-ghost use Rattle.std.specs.Prelude.{◌≡◌, ℕ, List, [], ◌++◌};
+ghost use Rattle.std.specs.Prelude.{◌≡◌, ℕ, Option, List, [], ◌++◌};
+ghost use Rattle.hb_cache.specs.declared.kept.Kept.{Kept};
+ghost use Rattle.hb_call.specs.OwnCache.{IsOwnCache};
 ghost use mathlib.Core.List.{IsPrefix};
 ghost use Rattle.hb_tables.specs.Frames.{acts};
 ghost use Rattle.hb_tables.specs.History.{IsLegal};
@@ -103,6 +105,7 @@ pub fn leave<D: Desk>(frame: Frame, desk: &mut D)
     ensures legal { IsLegal (D.fixed desk.old).limit (D.front desk.old) → IsLegal (D.fixed desk.old).limit (D.front desk.new) }
     ensures others { (p : ℕ) → (p ≡ frame.q.0 → ⊥) → stands (D.fixed desk.old).caller p (D.front desk.new) ≡ stands (D.fixed desk.old).caller p (D.front desk.old) }
     ensures grown { (t : Table) (names asked : List Name) → HasCall (D.fixed desk.old).caller frame.q.0 (D.front desk.old) → Grown t (D.fixed desk.old).caller names asked asked (D.front desk.old) (D.front desk.new) }
+    ensures own { (t : Table) (names asked : List Name) (cache : List (Option Kept)) → IsOwnCache t names asked (D.fixed desk.old).caller (D.front desk.old) cache → IsOwnCache t names asked (D.fixed desk.old).caller (D.front desk.new) cache }
     ensures fixed { D.fixed desk.new ≡ D.fixed desk.old }
 {
     free_keys(desk, frame.q, &frame.held);

@@ -3,8 +3,13 @@
 
 mod answers;
 mod call;
+mod comparing;
 mod entering;
 mod frame;
+mod keeping;
+mod ruling;
+mod share;
 
 pub use entering::enter;
 pub use frame::{CallFail, Entered, Frame, leave};
+pub use share::{COLLECTED_MAX, Share};

@@ -8,6 +8,7 @@ use Rattle.hb_names.specs.Names.{Name}
 use Rattle.hb_tables.specs.declared.entry.Entry.{Entry}
 use Rattle.hb_tables.specs.declared.entry.Act.{Act}
 use Rattle.hb_call.specs.Growth.{Grown}
+use Rattle.hb_call.specs.OwnCache.{IsOwnCache}
 use Rattle.hb_call.specs.GrowthLaws.{grown_itself, grown_on}
 use Rattle.hb_eval.specs.declared.cont.Cont.{Cont}
 use Rattle.hb_eval.specs.declared.cont.Cont.TheVariants as cont
@@ -102,9 +103,9 @@ some_weight _ = omega arith
 -- a stop passed what was to be done
 pub stop_turn : (t : Table) (c : ℕ) (known asked : List Name) (past now : List Entry) (old new : Machine) (k : Cont) (ks : List Cont) → old.stops ≡ true → reverse old.conts.items ≡ k ∷ ks → IsFineMachine t old
     → Reads known c past now old.state new.state (with_stop t (k ∷ []) old.gives old.frames.items old.state) (with_stop t [] old.gives new.frames.items new.state) → Lowers t (need k) (frames_in k) old.frames.items old.state new.frames.items new.state
-    → Grown t c known asked asked past now → new.gives ≡ old.gives → new.stops ≡ old.stops → reverse new.conts.items ≡ ks
+    → Grown t c known asked asked past now → IsOwnCache t known asked c now new.state.cache → new.gives ≡ old.gives → new.stops ≡ old.stops → reverse new.conts.items ≡ ks
     → Carries t c known asked asked past now old new
-stop_turn t c known asked past now old new k ks stopped top f r low grown gives stops conts =
+stop_turn t c known asked past now old new k ks stopped top f r low grown own gives stops conts =
     let m : Move = record { under = None; push = None; gives = old.gives; stops = true } in
     let g = lowers_moves t k old.gives old.frames.items old.state new.frames.items new.state low in
     record {
@@ -114,12 +115,13 @@ stop_turn t c known asked past now old new k ks stopped top f r low grown gives 
       fuel = low.steady.fuel;
       stops = λ h. stops ∙ h;
       grown = grown;
+      own = own;
     }
 
 -- nothing was done
-pub carries_held : (t : Table) (c : ℕ) (known asked : List Name) (log : List Entry) (old : Machine) (v : Vec Cont Global) → v.items ≡ old.conts.items → IsFineMachine t old → Carries t c known asked asked log log old (record old { conts = v })
-carries_held t c known asked log old v e f = record {
-  reads = reads_none known c log log old.state old.state (of_machine t old) (of_machine t (record old { conts = v })) refl (record { made = refl; decided = refl; entered = refl })
+pub carries_held : (t : Table) (c : ℕ) (known asked : List Name) (log : List Entry) (old : Machine) (v : Vec Cont Global) → v.items ≡ old.conts.items → IsFineMachine t old → IsOwnCache t known asked c log old.state.cache → Carries t c known asked asked log log old (record old { conts = v })
+carries_held t c known asked log old v e f own = record {
+  reads = reads_none known c log log old.state old.state (of_machine t old) (of_machine t (record old { conts = v })) refl (record { made = refl; decided = refl; own = refl; fresh = refl })
       (λ names ks read journal. ap (λ l. stands_at t names (reverse l) old.frames.items old.gives old.stops old.state read journal) (sym e));
   fine = record {
     conts = subst (λ l. AllByRecursion (IsFine t) (reverse l)) (sym e) f.conts;
@@ -137,6 +139,7 @@ carries_held t c known asked log old v e f = record {
   fuel = refl;
   stops = λ h. h;
   grown = grown_itself t c known asked log;
+  own = own;
 }
 
 pub carries_on : (t : Table) (c : ℕ) (known longer was mid asked : List Name) (past half now : List Entry) (old m new : Machine) → IsPrefix known longer → Carries t c known was mid past half old m → Carries t c longer mid asked half now m new → Carries t c longer was asked past now old new
@@ -147,14 +150,15 @@ carries_on t c known longer was mid asked past half now old m new p a b = record
   fuel = b.fuel ∙ a.fuel;
   stops = λ h. b.stops (a.stops h);
   grown = grown_on t c known longer was mid asked past half now a.grown b.grown p;
+  own = b.own;
 }
 
 -- an expression began
 pub begin_turn : (t : Table) (c : ℕ) (known was asked : List Name) (past now : List Entry) (old new : Machine) (m : Move) → old.gives ≡ false → old.stops ≡ false → IsFineMachine t old
     → Reads known c past now old.state new.state (at_beginning t old.frames.items old.state) (after t m new.frames.items new.state) → Goes t 0 0 0 old.frames.items old.state new.frames.items new.state m
-    → new.state.begun ≡ old.state.begun + 1 → IsFed m.stops old.state.fuel new.state.fuel → Grown t c known was asked past now → new.gives ≡ m.gives → new.stops ≡ m.stops → reverse new.conts.items ≡ onto m.push (onto m.under (reverse old.conts.items))
+    → new.state.begun ≡ old.state.begun + 1 → IsFed m.stops old.state.fuel new.state.fuel → Grown t c known was asked past now → IsOwnCache t known asked c now new.state.cache → new.gives ≡ m.gives → new.stops ≡ m.stops → reverse new.conts.items ≡ onto m.push (onto m.under (reverse old.conts.items))
     → Begins t c known was asked past now old new
-begin_turn t c known was asked past now old new m given going f r g begun fed grown gives stops conts =
+begin_turn t c known was asked past now old new m given going f r g begun fed grown own gives stops conts =
     let ks = reverse old.conts.items in
     record {
       reads = moved_reads t known c past now old new ks m (at_beginning t old.frames.items old.state) (seen_same t old ks false false given going refl) r gives stops conts;
@@ -162,6 +166,7 @@ begin_turn t c known was asked past now old new m given going f r g begun fed gr
       begun = begun;
       fed = subst (λ b. IsFed b old.state.fuel new.state.fuel) (sym stops) fed;
       grown = grown;
+      own = own;
     }
 
 fed_on : (a b : Bool) (n m o : ℕ) → (a ≡ true → b ≡ true) → o ≡ m → IsFed a n m → IsFed b n o
@@ -177,6 +182,7 @@ begins_on t c known longer was mid asked past half now old m new p a b = record 
   begun = b.begun ∙ a.begun;
   fed = fed_on m.stops new.stops old.state.fuel m.state.fuel new.state.fuel b.stops b.fuel a.fed;
   grown = grown_on t c known longer was mid asked past half now a.grown b.grown p;
+  own = b.own;
 }
 
 next_first : (g s : Bool) (n : ℕ) (ks : List Cont) → IsNext g s n ks → g ≡ true → (s ≡ false) × (n ≡ 0) × IsOneBlock ks
@@ -221,7 +227,7 @@ opens_block t old new rest k m f going given all moves plain steady known less q
     let none : rest ≡ [] = one_block old.conts.items rest k first.2 all in
     let ks = reverse rest in
     let top : reverse old.conts.items ≡ k ∷ ks = ap reverse all ∙ pushed_first rest k in
-    let goes : Goes t (need k) 0 0 old.frames.items old.state old.frames.items new.state m = plain_goes t (Some k) old.frames.items old.state new.state m (keeps_moves t (Some k) true old.state new.state m moves) plain.0 plain.1 steady known in
+    let goes : Goes t (need k) 0 0 old.frames.items old.state old.frames.items new.state m = plain_goes t (Some k) old.frames.items old.state new.state m (keeps_moves t (Some k) true old.state new.state m moves) plain.0 plain.1 steady.begun steady.calls known in
     let g : Goes t (need k) (frames_in k) (calls_in k) old.frames.items old.state new.frames.items new.state m =
     subst (λ n. Goes t (need k) n (calls_in k) old.frames.items old.state new.frames.items new.state m) (sym quiet.0) (subst (λ n. Goes t (need k) 0 n old.frames.items old.state new.frames.items new.state m) (sym quiet.1)
     (subst (λ l. Goes t (need k) 0 0 old.frames.items old.state l new.state m) (sym frames) goes)) in
@@ -239,11 +245,12 @@ opens_block t old new rest k m f going given all moves plain steady known less q
     }
 
 -- the block has its value at once
-pub opened_advances : (t : Table) (c : ℕ) (known asked : List Name) (log : List Entry) (old new : Machine) → Opens t old new → Advances t c known asked asked log log old new
-opened_advances t c known asked log old new o = record {
+pub opened_advances : (t : Table) (c : ℕ) (known asked : List Name) (log : List Entry) (old new : Machine) → IsOwnCache t known asked c log old.state.cache → Opens t old new → Advances t c known asked asked log log old new
+opened_advances t c known asked log old new own o = record {
   reads = reads_none known c log log old.state new.state (of_machine t old) (of_machine t new) refl o.steady.calls (λ names ks read journal. o.same names read journal);
   fine = o.fine;
   grown = grown_itself t c known asked log;
+  own = subst (IsOwnCache t known asked c log) (sym o.steady.cache) own;
 }
 
 pub begun_advances : (t : Table) (c : ℕ) (known was asked : List Name) (past now : List Entry) (old m new : Machine) → Opens t old m → Begins t c known was asked past now m new → Advances t c known was asked past now old new
@@ -254,13 +261,14 @@ begun_advances t c known was asked past now old m new o b = record {
     same = λ names p few ks read journal. o.same names read (b.reads.more ++ journal) ∙ b.reads.same names p few ks read journal;
     tallies = record {
       decided = let e = b.reads.tallies.decided in let s = o.steady.calls.decided in omega (arith, e, s);
-      entered = let e = b.reads.tallies.entered in let s = o.steady.calls.entered in omega (arith, e, s);
-      own = b.reads.tallies.own;
+      own = let e = b.reads.tallies.own in let s = o.steady.calls.own in omega (arith, e, s);
+      fresh = let e = b.reads.tallies.fresh in let s = o.steady.calls.fresh in omega (arith, e, s);
       shared = b.reads.tallies.shared;
     };
   };
   fine = b.fine;
   grown = b.grown;
+  own = b.own;
 }
 
 no_frames : (fs : List Framed) → length fs ≡ 0 → fs ≡ []

@@ -31,7 +31,7 @@ use Rattle.hb_eval.specs.Steps.{AreKnown, InEach, Moves, Keeps, SameCalls, Stead
 use Rattle.hb_eval.specs.Stacks.{frames_at, calls_in}
 use Rattle.hb_eval.specs.Tables.{ActsOn}
 use Rattle.hb_eval.specs.Turns.{world, with_value, at_beginning, after, Tallies, Reads, Goes}
-use Rattle.hb_eval.specs.Quiet.{IsQuiet}
+use Rattle.hb_eval.specs.Quiet.{IsFrequent, IsQuiet}
 use Rattle.hb_eval.proofs.CallFuelLemmas.{calls_keep}
 use Rattle.hb_eval.proofs.TurnLemmas.{frames_stay, reads_none}
 use Rattle.hb_eval.proofs.CountLemmas.{count_no}
@@ -74,8 +74,8 @@ none_enters way (a ∷ l) h = (no_call way a h.0, none_enters way l h.1)
 apart_tallies : (old new : State) (l : List Act) → AllByRecursion (λ a. is_call a ≡ false) l → SameCalls old new → Tallies old new l
 apart_tallies old new l h same = record {
   decided = omega (arith, same.decided, counts_none is_call l h);
-  entered = omega (arith, same.entered, counts_none (is_entered by.Fresh) l (none_enters by.Fresh l h));
-  own = counts_none (is_entered by.Own) l (none_enters by.Own l h);
+  own = omega (arith, same.own, counts_none (is_entered by.Own) l (none_enters by.Own l h));
+  fresh = omega (arith, same.fresh, counts_none (is_entered by.Fresh) l (none_enters by.Fresh l h));
   shared = counts_none (is_entered by.Shared) l (none_enters by.Shared l h);
 }
 
@@ -126,6 +126,13 @@ is_quiet (cont.Method id) r a m f = absurd (m id refl)
 is_quiet cont.Frame r a m f = absurd (f refl)
 is_quiet _ r a m f = tt
 
+pub frequent_quiet : (k : Cont) → IsFrequent k → IsQuiet k
+frequent_quiet (cont.Receiver id) h = absurd h
+frequent_quiet (cont.Arguments id n) h = absurd h
+frequent_quiet (cont.Method id) h = absurd h
+frequent_quiet cont.Frame h = absurd h
+frequent_quiet _ h = tt
+
 -- what follows from several facts of one answer
 pub if_all : {T E : Type 0} (r : Result T E) (P Q R : T → Type 0) (A B : Type 0) → ((x : T) → P x → Q x → (A → B) → R x) → IfOk r P → IfOk r Q → (A → OnOk r B) → IfOk r R
 if_all (Ok x) P Q R A B h p q k = h x p q k
@@ -150,4 +157,4 @@ pub quiet_goes : (t : Table) (k : Cont) (frames : List Framed) (old new : State)
     → Goes t (need k) (frames_in k) (calls_in k) frames old frames new move
 quiet_goes t k frames old new move quiet keeps under push same known =
     let none = quiet_none k quiet in
-    rw (none.0, none.1) (plain_goes t (Some k) frames old new move keeps under push same known)
+    rw (none.0, none.1) (plain_goes t (Some k) frames old new move keeps under push same.begun same.calls known)

@@ -92,7 +92,7 @@ argument_starts known t c log id n at r m ids d a frames old new move is mv tree
     let ops = old.operands.items in
     let here : trees_from n F ≡ Trees (tree_at t a.0) (trees_from (suc n) F) = from_place (tree_at t) ids n d lt ∙ ap (λ (i : NodeId). Trees (tree_at t i.0) (trees_from (suc n) F)) (sym read) in
     let len : length (drop at ops) ≡ suc n = omega (arith, length-drop at ops, size) in
-    rw (is, mv) (reads_none known c log log old (record old { at = a }) _ _ refl (record { made = refl; decided = refl; entered = refl }) (λ names ks rd journal.
+    rw (is, mv) (reads_none known c log log old (record old { at = a }) _ _ refl (record { made = refl; decided = refl; own = refl; fresh = refl }) (λ names ks rd journal.
     let w : World = world t names in
     let fs : Frames = frames_at frames old in
     let s : St = st_of old rd journal in

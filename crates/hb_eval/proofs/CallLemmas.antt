@@ -28,6 +28,7 @@ use Rattle.hb_tables.specs.Verdicts.{verdict_of}
 use Rattle.hb_call.specs.Held.{frees, stands}
 use Rattle.hb_call.specs.Reading as reading
 use Rattle.hb_call.specs.Reading.{Read, Called, FullAt, freed, refused_at, call_of}
+use Rattle.hb_call.specs.Rules.{IsRightWay}
 use Rattle.hb_call.specs.Entering.{Asks, IsDecidedOf}
 use Rattle.hb_eval.specs.declared.value.Value.{Value}
 use Rattle.hb_eval.specs.declared.stop.Stop.{Stop}
@@ -152,3 +153,7 @@ body_there a names old mid key way site held d = go (body_at d.given.t site) ref
     go : (o : Option Body) → body_at d.given.t site ≡ o → verdict.Enter by.Fresh ≡ verdict_of d.given.t (types_in d.given.t names d.decided.before) d.decided.row.name.0 (body_at d.given.t site) (type_of_key d.given.t d.decided.before d.given.key.0) (kinds_of d.given.args) → (b : Body) × (body_at a.t site ≡ Some b)
     go None e rules = absurd (let f : verdict.Enter by.Fresh ≡ verdict.NoBody = rw e at rules in cc)
     go (Some b) e rules = (b, ap (λ t. body_at t site) (sym d.program) ∙ e)
+
+-- no call enters by a check of another script
+pub not_shared : (a : Asks) (names : List Name) (old mid : List Entry) (key : KeyId) (way : By) (site : Option BodySite) (held : List KeyId) → IsDecidedOf a names old mid key (verdict.Enter way) site held → way ≡ by.Shared → ⊥
+not_shared a names old mid key way site held d is = subst (λ (w : By). IsRightWay d.given.door.caller d.given.key.0 d.decided.before (verdict.Enter w)) is d.decided.way

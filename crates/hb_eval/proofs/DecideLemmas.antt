@@ -1,5 +1,5 @@
 -- A call that is decided, in the words of its parts.
-use Rattle.std.proofs.Common.{◌≡◌, ℕ, suc, ◌+◌, ◌<◌, ◌≤◌, ◌⊎◌, inl, inr, List, [], ◌∷◌, ◌++◌, length, map, get_or, drop, Option, Some, None, Bool, true, false, nat_eq, refl, sym, ap, ◌∙◌, subst}
+use Rattle.std.proofs.Common.{◌≡◌, ℕ, suc, ◌+◌, ◌<◌, ◌≤◌, ◌⊎◌, inl, inr, List, [], ◌∷◌, ◌++◌, length, map, get_or, drop, Option, Some, None, Bool, true, false, nat_eq, refl, sym, ap, ◌∙◌, subst, arith}
 use Rattle.std.proofs.lemmas.Option.{none-some}
 use Rattle.std.proofs.lemmas.Bool.{eqb-true}
 use Rattle.hb_tables.specs.declared.entry.Act.TheVariants.{Hold, Free, Retype, Busy, WornType, Define, WornDef, Call}
@@ -11,6 +11,7 @@ use Rattle.hb_names.proofs.NameLemmas.{place-append}
 use Rattle.std.proofs.Common.{append-nil}
 use Rattle.std.specs.Prelude.{Ok, slice_get, is_some, if◌then◌else◌}
 use mathlib.Core.List.{IsPrefix}
+use Rattle.hb_cache.specs.declared.kept.Kept.{Kept}
 use Rattle.hb_types.specs.declared.ids.CallNo.{CallNo}
 use Rattle.hb_types.specs.declared.ids.ClassId.{ClassId}
 use Rattle.hb_types.specs.declared.ids.NodeId.{NodeId}
@@ -38,8 +39,8 @@ use Rattle.hb_eval.specs.declared.state.State.{State}
 use Rattle.hb_eval.specs.declared.state.Move.{Move}
 use Rattle.hb_eval.specs.Values.{IsKnown, kind_of}
 use Rattle.hb_eval.specs.Calls.{receiver}
-use Rattle.hb_eval.specs.Turns.{Telling, with_operands, after, Reads}
-use Rattle.hb_eval.specs.Entries.{calling, entered}
+use Rattle.hb_eval.specs.Turns.{Goes, Telling, with_operands, after, Reads}
+use Rattle.hb_eval.specs.Entries.{calling, counted, entered, with_entry}
 use Rattle.hb_eval.proofs.MethodLemmas.{whole}
 use Rattle.hb_eval.proofs.TurnLemmas.{prefix_on, reads_on}
 use Rattle.hb_eval.proofs.StayingLemmas.{prefix_itself}
@@ -61,16 +62,64 @@ reads_longer known longer c was now old new first second named a = record {
   tallies = a.tallies;
 }
 
+-- what is kept plays no part in what the acts come to
+pub reads_kept : (known : List Name) (c : ℕ) (was now : List Entry) (old new : State) (cache : List (Option Kept)) (told telling : Telling) → Reads known c was now (record old { cache = cache }) new told telling → Reads known c was now old new told telling
+reads_kept known c was now old new cache told telling r = record {
+  more = r.more;
+  grows = r.grows;
+  same = r.same;
+  tallies = record { decided = r.tallies.decided; own = r.tallies.own; fresh = r.tallies.fresh; shared = r.tallies.shared };
+}
+
+-- nor in what the stacks have
+pub goes_kept : (t : Table) (taken ended pending : ℕ) (old_frames : List Framed) (old : State) (cache : List (Option Kept)) (new_frames : List Framed) (new : State) (move : Move)
+    → Goes t taken ended pending old_frames (record old { cache = cache }) new_frames new move → Goes t taken ended pending old_frames old new_frames new move
+goes_kept t taken ended pending old_frames old cache new_frames new move g = record {
+  under = g.under;
+  push = g.push;
+  step = g.step;
+  light = g.light;
+  operands = g.operands;
+  frames = g.frames;
+  calls = g.calls;
+  decided = g.decided;
+  entered = g.entered;
+  based = λ b. g.based (record { top = b.top; below = b.below });
+  known = λ h. g.known (record { state = record { acc = h.state.acc; operands = h.state.operands; vars = h.state.vars; class = h.state.class }; callers = h.callers });
+}
+
+entered_more : (way : By) (x : State) → x.own + x.fresh ≤ x.decided → with_entry by.Own way x.own + with_entry by.Fresh way x.fresh ≤ x.decided + 1
+entered_more by.Own x h = omega (arith, h)
+entered_more by.Shared x h = omega (arith, h)
+entered_more by.Fresh x h = omega (arith, h)
+
+-- the call of a body that begins was counted
+pub goes_counted : (t : Table) (taken : ℕ) (way : By) (old_frames : List Framed) (old : State) (new_frames : List Framed) (new : State) (move : Move)
+    → Goes t taken 0 0 old_frames (counted way old) new_frames new move → Goes t taken 0 1 old_frames old new_frames new move
+goes_counted t taken way old_frames old new_frames new move g = record {
+  under = g.under;
+  push = g.push;
+  step = g.step;
+  light = g.light;
+  operands = g.operands;
+  frames = g.frames;
+  calls = let e = g.calls in omega (arith, e);
+  decided = λ h. g.decided (omega (arith, h));
+  entered = λ h. g.entered (entered_more way old h);
+  based = λ b. g.based (record { top = b.top; below = b.below });
+  known = λ h. g.known (record { state = record { acc = h.state.acc; operands = h.state.operands; vars = h.state.vars; class = h.state.class }; callers = h.callers });
+}
+
 -- it enters, and its body begins
 pub enters_body : (known : List Name) (t : Table) (door : Fixed) (q : CallNo) (cl : ClassId) (m : ℕ) (args : ArgKinds) (id : NodeId) (at : ℕ) (d : Value) (frames reserved new_frames : List Framed) (old mid new : State) (f : Frame) (way : By) (b : Body) (was now : List Entry) (move : Move)
     → q.0 ≡ old.made + 1 → at < length old.operands.items → length frames < 4096 → receiver (get_or old.operands.items at d) ≡ Ok cl → kinds_of args ≡ map kind_of (drop (suc at) old.operands.items)
-    → f.q ≡ q → IsDecidedOf (record { t = t; door = door; q = q; class = cl; bytes = bytes_at t.names m; args = args }) known was now f.key (verdict.Enter way) (Some f.body) f.held.items → way ≡ by.Fresh → body_at t (Some f.body) ≡ Some b
-    → mid ≡ record old { made = old.made + 1; decided = old.decided + 1; entered = old.entered + 1 } → reserved ≡ frames → new.begun ≡ mid.begun
+    → f.q ≡ q → IsDecidedOf (record { t = t; door = door; q = q; class = cl; bytes = bytes_at t.names m; args = args }) known was now f.key (verdict.Enter way) (Some f.body) f.held.items → (way ≡ by.Shared → ⊥) → body_at t (Some f.body) ≡ Some b
+    → mid ≡ counted way old → reserved ≡ frames → new.begun ≡ mid.begun
     → Reads known door.caller now now mid new (with_operands t at (λ w room vs s. entered w room f cl b vs s) reserved mid) (after t move new_frames new)
     → Reads known door.caller was now old new (with_operands t at (λ w room vs s. calling w room id.0 m vs s) frames old) (after t move new_frames new)
-enters_body known t door q cl m args id at d frames reserved new_frames old mid new f way b was now move number lt few rec kinds same h fresh body is room begun r =
+enters_body known t door q cl m args id at d frames reserved new_frames old mid new f way b was now move number lt few rec kinds same h apart body is room begun r =
     reads_on known known door.caller was now now old mid new _ _ _ (prefix_itself known) (sym begun)
-    (call_enters known t door q cl m args id at d frames old number lt few rec kinds f way b was now mid same h fresh body is)
+    (call_enters known t door q cl m args id at d frames old number lt few rec kinds f way b was now mid same h apart body is)
     (subst (λ l. Reads known door.caller now now mid new (with_operands t at (λ w room vs s. entered w room f cl b vs s) l mid) (after t move new_frames new)) room r)
 
 -- a name has its place also in a longer list, so it was not that name for which there was no room

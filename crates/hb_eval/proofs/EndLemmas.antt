@@ -61,8 +61,8 @@ frees_apart p h q (k ∷ keys) = sum_by-cons (λ x. cond (p x) 1 0) (Free q k) (
 frees_tallies : (old new : State) (q : CallNo) (keys : List KeyId) → SameCalls old new → Tallies old new (frees q keys)
 frees_tallies old new q keys h = record {
   decided = omega (arith, h.decided, frees_apart is_call (λ _ _. refl) q keys);
-  entered = omega (arith, h.entered, frees_apart (is_entered by.Fresh) (λ _ _. refl) q keys);
-  own = frees_apart (is_entered by.Own) (λ _ _. refl) q keys;
+  own = omega (arith, h.own, frees_apart (is_entered by.Own) (λ _ _. refl) q keys);
+  fresh = omega (arith, h.fresh, frees_apart (is_entered by.Fresh) (λ _ _. refl) q keys);
   shared = frees_apart (is_entered by.Shared) (λ _ _. refl) q keys;
 }
 
@@ -92,7 +92,7 @@ leaves_lowers t c was now old_frames old new_frames new l = go l.frame new.vars 
         rw state (record {
           operands = omega arith;
           frames = omega (arith, ap length fs, length-append new_frames (f ∷ []));
-          steady = record { begun = refl; fuel = refl; calls = record { made = refl; decided = refl; entered = refl } };
+          steady = record { begun = refl; fuel = refl; calls = record { made = refl; decided = refl; own = refl; fresh = refl }; cache = refl };
           based = λ b.
               let below = subst (λ l. Based l old.base) rev b.below in
               record { top = omega (arith, below.0, b.top, ap length vars, length-take-le old.base old.vars.items b.top); below = below.1 };
@@ -127,7 +127,7 @@ leaves_reads known t c was now old_frames old new_frames new move l mv = go l.fr
               ap (λ g. resume (world t names) ks (reverse old.operands.items) (drop 1 g) (frame_plug g (Done old.acc s))) top
               ∙ ap (resume (world t names) ks (reverse old.operands.items) (views (reverse new_frames) (take f.base vs.items)))
               (frees_read f.frame.q f.frame.held.items s journal (λ s. Done old.acc (record s { vars = drop f.base vs.items; self = f.class })) refl);
-          tallies = frees_tallies old (record old { vars = vs; base = f.base; class = f.class }) f.frame.q f.frame.held.items (record { made = refl; decided = refl; entered = refl });
+          tallies = frees_tallies old (record old { vars = vs; base = f.base; class = f.class }) f.frame.q f.frame.held.items (record { made = refl; decided = refl; own = refl; fresh = refl });
         })
 
 -- a frame ends with a stop
@@ -148,7 +148,7 @@ leaves_stop known t g c was now old_frames old new_frames new l = go l.frame new
               ap (λ g. resume (world t names) ks (reverse old.operands.items) (drop 1 g) (frame_plug g (Halt old.stop old.at.0 s))) top
               ∙ ap (resume (world t names) ks (reverse old.operands.items) (views (reverse new_frames) (take f.base vs.items)))
               (frees_read f.frame.q f.frame.held.items s journal (λ s. Halt old.stop old.at.0 (record s { vars = drop f.base vs.items; self = f.class })) refl);
-          tallies = frees_tallies old (record old { vars = vs; base = f.base; class = f.class }) f.frame.q f.frame.held.items (record { made = refl; decided = refl; entered = refl });
+          tallies = frees_tallies old (record old { vars = vs; base = f.base; class = f.class }) f.frame.q f.frame.held.items (record { made = refl; decided = refl; own = refl; fresh = refl });
         })
 
 -- a stop is not changed by what is no frame
@@ -181,7 +181,7 @@ passes_operands known t g c log k frames old new ops m ne after cut size =
           ∙ ap (λ n. resume w ks (drop (need k) rv) (drop n (frames_at frames old)) (Halt old.stop old.at.0 s)) none_left
           ∙ ap (λ l. resume w ks l (frames_at frames old) (Halt old.stop old.at.0 s)) (sym (reverse_drop old.operands.items m (need k) size) ∙ ap reverse (sym cut))
           ∙ ap (λ q. resume w ks (reverse ops.items) (frames_at frames old) (Halt old.stop old.at.0 (st_of old q journal))) (sym (append-nil read));
-      tallies = record { decided = omega arith; entered = omega arith; own = refl; shared = refl };
+      tallies = record { decided = omega arith; own = omega arith; fresh = omega arith; shared = refl };
     })
 
 -- a frame that ended gives a value
@@ -196,7 +196,7 @@ lowers_goes t old_frames old new_frames new move l mv =
       frames = omega (arith, l.frames);
       calls = omega (arith, l.steady.begun, l.steady.calls.made);
       decided = λ h. omega (arith, h, l.steady.calls.made, l.steady.calls.decided);
-      entered = λ h. omega (arith, h, l.steady.calls.entered, l.steady.calls.decided);
+      entered = λ h. omega (arith, h, l.steady.calls.own, l.steady.calls.fresh, l.steady.calls.decided);
       based = l.based;
       known = l.known;
     })
@@ -209,7 +209,7 @@ operands_lower t k frames old new ops m ne is cut size =
     rw is (record {
       operands = omega (arith, ap length cut, length-take-le m old.operands.items (omega arith));
       frames = omega (arith, none_left);
-      steady = record { begun = refl; fuel = refl; calls = record { made = refl; decided = refl; entered = refl } };
+      steady = record { begun = refl; fuel = refl; calls = record { made = refl; decided = refl; own = refl; fresh = refl }; cache = refl };
       based = λ b. record { top = b.top; below = b.below };
       known = λ k. record {
         state = record { acc = k.state.acc; operands = subst (AllByRecursion (IsKnown t)) (sym cut) (taken_each (IsKnown t) m old.operands.items k.state.operands); vars = k.state.vars; class = k.state.class };

@@ -47,7 +47,7 @@ use Rattle.hb_eval.specs.Machine.{World, Frames, meaning, room, resume, stands a
 use Rattle.hb_eval.specs.Steps.{InEach, Starts, SameCalls, onto}
 use Rattle.hb_eval.specs.Stacks.{holds_of, ends, views, frames_at}
 use Rattle.hb_eval.specs.Turns.{world, with_operands, after, Tallies, Reads}
-use Rattle.hb_eval.specs.Entries.{calling, entered, refusal}
+use Rattle.hb_eval.specs.Entries.{calling, counted, entered, refusal}
 use Rattle.hb_eval.proofs.MethodLemmas.{whole}
 use Rattle.hb_eval.proofs.StackLemmas.{pushed_first, frames_length}
 use Rattle.hb_eval.proofs.TurnLemmas.{reads_none, frames_stay}
@@ -74,7 +74,7 @@ call_halts known t c log id m at d e frames old new ops move lt cut is mv h =
           ∙ ap (resume w ks (reverse (take at all)) fs) (h names p few (drop (suc at) all) s)
           ∙ ap (λ l. resume w ks (reverse l) fs (Halt e id.0 s)) (sym cut)
           ∙ ap (λ q. resume w ks (reverse ops.items) fs (Halt e id.0 (st_of old q journal))) (sym (append-nil read));
-      tallies = record { decided = omega arith; entered = omega arith; own = refl; shared = refl };
+      tallies = record { decided = omega arith; own = omega arith; fresh = omega arith; shared = refl };
     })
 
 some_room : (frames : List Framed) (x : State) → length frames < 4096 → room (frames_at frames x) ≢ 0
@@ -91,14 +91,21 @@ call_full_once known t c log id m at d cl frames old new ops move lt cut is mv f
     call_full t names (room (frames_at frames old)) id.0 m (get_or old.operands.items at d) cl vs s (some_room frames old few) rec (ap (λ l. place l (cl.0, bytes_at t.names m)) same ∙ full.1) (ap length same ∙ full.0))
 
 -- a decided call is one Call, which enters or does not
-enter_tallies : (old new : State) (q k : ℕ) (kinds : _) (site : _) (way : By) (held : _) (made : List Act) → call_of q k kinds made ≡ Called site (verdict.Enter way) held [] → way ≡ by.Fresh → new.decided ≡ old.decided + 1 → new.entered ≡ old.entered + 1 → Tallies old new made
-enter_tallies old new q k kinds site way held made e fresh decided entered =
-    let f : call_of q k kinds made ≡ Called site (verdict.Enter by.Fresh) held [] = e ∙ ap (λ w. Called site (verdict.Enter w) held []) fresh in
+enter_tallies : (old : State) (q k : ℕ) (kinds : _) (site : _) (way : By) (held : _) (made : List Act) → call_of q k kinds made ≡ Called site (verdict.Enter way) held [] → (way ≡ by.Shared → ⊥) → Tallies old (counted way old) made
+enter_tallies old q k kinds site by.Shared held made e apart = absurd (apart refl)
+enter_tallies old q k kinds site by.Own held made e apart =
     record {
-      decided = omega (arith, decided, call_counts is_call (λ _ _ _ _. refl) (λ _ _. refl) q k kinds site (verdict.Enter by.Fresh) held true (λ _ _ _. refl) made f);
-      entered = omega (arith, entered, call_counts (is_entered by.Fresh) (λ _ _ _ _. refl) (λ _ _. refl) q k kinds site (verdict.Enter by.Fresh) held true (λ _ _ _. refl) made f);
-      own = call_counts (is_entered by.Own) (λ _ _ _ _. refl) (λ _ _. refl) q k kinds site (verdict.Enter by.Fresh) held false (λ _ _ _. refl) made f;
-      shared = call_counts (is_entered by.Shared) (λ _ _ _ _. refl) (λ _ _. refl) q k kinds site (verdict.Enter by.Fresh) held false (λ _ _ _. refl) made f;
+      decided = omega (arith, call_counts is_call (λ _ _ _ _. refl) (λ _ _. refl) q k kinds site (verdict.Enter by.Own) held true (λ _ _ _. refl) made e);
+      own = omega (arith, call_counts (is_entered by.Own) (λ _ _ _ _. refl) (λ _ _. refl) q k kinds site (verdict.Enter by.Own) held true (λ _ _ _. refl) made e);
+      fresh = omega (arith, call_counts (is_entered by.Fresh) (λ _ _ _ _. refl) (λ _ _. refl) q k kinds site (verdict.Enter by.Own) held false (λ _ _ _. refl) made e);
+      shared = call_counts (is_entered by.Shared) (λ _ _ _ _. refl) (λ _ _. refl) q k kinds site (verdict.Enter by.Own) held false (λ _ _ _. refl) made e;
+    }
+enter_tallies old q k kinds site by.Fresh held made e apart =
+    record {
+      decided = omega (arith, call_counts is_call (λ _ _ _ _. refl) (λ _ _. refl) q k kinds site (verdict.Enter by.Fresh) held true (λ _ _ _. refl) made e);
+      own = omega (arith, call_counts (is_entered by.Own) (λ _ _ _ _. refl) (λ _ _. refl) q k kinds site (verdict.Enter by.Fresh) held false (λ _ _ _. refl) made e);
+      fresh = omega (arith, call_counts (is_entered by.Fresh) (λ _ _ _ _. refl) (λ _ _. refl) q k kinds site (verdict.Enter by.Fresh) held true (λ _ _ _. refl) made e);
+      shared = call_counts (is_entered by.Shared) (λ _ _ _ _. refl) (λ _ _. refl) q k kinds site (verdict.Enter by.Fresh) held false (λ _ _ _. refl) made e;
     }
 
 no_way : (way : By) (v : Verdict) (e : Stop) → refusal v ≡ Some e → (q : CallNo) (key : _) (site : _) (args : ArgKinds) → is_entered way (Call q key site args v) ≡ false
@@ -108,21 +115,21 @@ no_way way verdict.NoType e h q key site args = refl
 no_way way verdict.BadArgs e h q key site args = refl
 no_way way (verdict.IllTyped ill) e h q key site args = refl
 
-refuse_tallies : (old new : State) (q k : ℕ) (kinds : _) (site : _) (v : Verdict) (e : Stop) (made : List Act) → refusal v ≡ Some e → call_of q k kinds made ≡ Called site v [] [] → new.decided ≡ old.decided + 1 → new.entered ≡ old.entered → Tallies old new made
-refuse_tallies old new q k kinds site v e made why f decided entered =
+refuse_tallies : (old new : State) (q k : ℕ) (kinds : _) (site : _) (v : Verdict) (e : Stop) (made : List Act) → refusal v ≡ Some e → call_of q k kinds made ≡ Called site v [] [] → new.decided ≡ old.decided + 1 → new.own ≡ old.own → new.fresh ≡ old.fresh → Tallies old new made
+refuse_tallies old new q k kinds site v e made why f decided own fresh =
     record {
       decided = omega (arith, decided, call_counts is_call (λ _ _ _ _. refl) (λ _ _. refl) q k kinds site v [] true (λ _ _ _. refl) made f);
-      entered = omega (arith, entered, call_counts (is_entered by.Fresh) (λ _ _ _ _. refl) (λ _ _. refl) q k kinds site v [] false (λ r key args. no_way by.Fresh v e why r key site args) made f);
-      own = call_counts (is_entered by.Own) (λ _ _ _ _. refl) (λ _ _. refl) q k kinds site v [] false (λ r key args. no_way by.Own v e why r key site args) made f;
+      own = omega (arith, own, call_counts (is_entered by.Own) (λ _ _ _ _. refl) (λ _ _. refl) q k kinds site v [] false (λ r key args. no_way by.Own v e why r key site args) made f);
+      fresh = omega (arith, fresh, call_counts (is_entered by.Fresh) (λ _ _ _ _. refl) (λ _ _. refl) q k kinds site v [] false (λ r key args. no_way by.Fresh v e why r key site args) made f);
       shared = call_counts (is_entered by.Shared) (λ _ _ _ _. refl) (λ _ _. refl) q k kinds site v [] false (λ r key args. no_way by.Shared v e why r key site args) made f;
     }
 
-full_tallies : (old new : State) (q k : ℕ) (kinds : _) (made : List Act) → call_of q k kinds made ≡ FullAt [] → new.decided ≡ old.decided → new.entered ≡ old.entered → Tallies old new made
-full_tallies old new q k kinds made f decided entered =
+full_tallies : (old new : State) (q k : ℕ) (kinds : _) (made : List Act) → call_of q k kinds made ≡ FullAt [] → new.decided ≡ old.decided → new.own ≡ old.own → new.fresh ≡ old.fresh → Tallies old new made
+full_tallies old new q k kinds made f decided own fresh =
     record {
       decided = omega (arith, decided, full_counts is_call (λ _ _ _ _. refl) (λ _ _. refl) q k kinds made f);
-      entered = omega (arith, entered, full_counts (is_entered by.Fresh) (λ _ _ _ _. refl) (λ _ _. refl) q k kinds made f);
-      own = full_counts (is_entered by.Own) (λ _ _ _ _. refl) (λ _ _. refl) q k kinds made f;
+      own = omega (arith, own, full_counts (is_entered by.Own) (λ _ _ _ _. refl) (λ _ _. refl) q k kinds made f);
+      fresh = omega (arith, fresh, full_counts (is_entered by.Fresh) (λ _ _ _ _. refl) (λ _ _. refl) q k kinds made f);
       shared = full_counts (is_entered by.Shared) (λ _ _ _ _. refl) (λ _ _. refl) q k kinds made f;
     }
 
@@ -150,10 +157,10 @@ module _ (known : List Name) (t : Table) (door : Fixed) (q : CallNo) (cl : Class
       ∙ ap (λ x. called t (run names) id.0 cl vs x s) (ap (λ ks. call_of (old.made + 1) key ks (made ++ journal)) (sym kinds) ∙ ap (λ n. call_of n key (kinds_of args) (made ++ journal)) (sym number) ∙ is)
 
   -- it enters, and its body is to begin
-  pub call_enters : (f : Frame) (way : By) (b : Body) (was now : List Entry) (new : State) → f.q ≡ q → IsDecidedOf asks known was now f.key (verdict.Enter way) (Some f.body) f.held.items → way ≡ by.Fresh → body_at t (Some f.body) ≡ Some b
-      → new ≡ record old { made = old.made + 1; decided = old.decided + 1; entered = old.entered + 1 }
+  pub call_enters : (f : Frame) (way : By) (b : Body) (was now : List Entry) (new : State) → f.q ≡ q → IsDecidedOf asks known was now f.key (verdict.Enter way) (Some f.body) f.held.items → (way ≡ by.Shared → ⊥) → body_at t (Some f.body) ≡ Some b
+      → new ≡ counted way old
       → Reads known door.caller was now old new (with_operands t at (λ w room vs s. calling w room id.0 m vs s) frames old) (with_operands t at (λ w room vs s. entered w room f cl b vs s) frames new)
-  call_enters f way b was now new same h fresh body is =
+  call_enters f way b was now new same h apart body is =
       let dec = decision_of asks known was now f.key (verdict.Enter way) (Some f.body) f.held.items h in
       let hs = stands door.caller q.0 now in
       rw is (record {
@@ -169,8 +176,8 @@ module _ (known : List Name) (t : Table) (door : Fixed) (q : CallNo) (cl : Class
             ∙ ap (λ o. K (run_body (run names) (old.made + 1) cl vs hs o (numbered (read_to journal s)))) body
             ∙ ap K (body_runs (run names) (old.made + 1) cl vs hs f.held.items b s dec.made journal refl h.holds.keys)
             ∙ ap (λ n. K (leave n (holds_of f.held.items) s.vars s.self (run names b.block.0 (record s { next = s.next + 1; read = s.read ++ tagged s.begun dec.made; journal = journal; vars = bindings (params_of b) vs; self = Some cl })))) (sym number ∙ ap (λ (x : CallNo). x.0) (sym same))
-            ∙ ap (λ l. K (entered w (room fs) f cl b l (st_of (record old { made = old.made + 1; decided = old.decided + 1; entered = old.entered + 1 }) (rd ++ tagged old.begun dec.made) journal))) (sym (drop-cons old.operands.items at d lt));
-        tallies = enter_tallies old (record old { made = old.made + 1; decided = old.decided + 1; entered = old.entered + 1 }) q.0 f.key.0 (kinds_of args) (Some f.body) way hs dec.made (ap (call_of q.0 f.key.0 (kinds_of args)) (sym (append-nil dec.made)) ∙ dec.reads []) fresh refl refl;
+            ∙ ap (λ l. K (entered w (room fs) f cl b l (st_of (counted way old) (rd ++ tagged old.begun dec.made) journal))) (sym (drop-cons old.operands.items at d lt));
+        tallies = enter_tallies old q.0 f.key.0 (kinds_of args) (Some f.body) way hs dec.made (ap (call_of q.0 f.key.0 (kinds_of args)) (sym (append-nil dec.made)) ∙ dec.reads []) apart;
       })
 
   -- it was refused
@@ -198,7 +205,7 @@ module _ (known : List Name) (t : Table) (door : Fixed) (q : CallNo) (cl : Class
             ∙ ap K (decided_stops id.0 (run_body (run names) (old.made + 1) cl vs [] (body_at t h.site)) v e (numbered (read_to journal s)) why)
             ∙ ap (λ l. K (Halt e id.0 (record s { next = s.next + 1; read = rd ++ tagged old.begun l; journal = journal }))) (before_rest made journal)
             ∙ ap (λ l. resume w ks (reverse l) fs (Halt e id.0 (st_of mid (rd ++ tagged old.begun made) journal))) (sym cut);
-        tallies = refuse_tallies old mid q.0 h.key.0 (kinds_of args) h.site v e made why (ap (call_of q.0 h.key.0 (kinds_of args)) (sym (append-nil made)) ∙ reads []) refl refl;
+        tallies = refuse_tallies old mid q.0 h.key.0 (kinds_of args) h.site v e made why (ap (call_of q.0 h.key.0 (kinds_of args)) (sym (append-nil made)) ∙ reads []) refl refl refl;
       })
 
   -- it found the list of names full while its body was checked
@@ -218,7 +225,7 @@ module _ (known : List Name) (t : Table) (door : Fixed) (q : CallNo) (cl : Class
             ap K (read_call h.key.0 h.made journal (FullAt journal) rd h.named (h.reads journal) names p)
             ∙ ap (λ l. K (Halt stop.Full id.0 (record s { next = s.next + 1; read = rd ++ tagged old.begun l; journal = journal }))) (before_rest h.made journal)
             ∙ ap (λ l. resume w ks (reverse l) fs (Halt stop.Full id.0 (st_of mid (rd ++ tagged old.begun h.made) journal))) (sym cut);
-        tallies = full_tallies old mid q.0 h.key.0 (kinds_of args) h.made (ap (call_of q.0 h.key.0 (kinds_of args)) (sym (append-nil h.made)) ∙ h.reads []) refl refl;
+        tallies = full_tallies old mid q.0 h.key.0 (kinds_of args) h.made (ap (call_of q.0 h.key.0 (kinds_of args)) (sym (append-nil h.made)) ∙ h.reads []) refl refl refl;
       })
 
 -- a body begins in a frame of its own

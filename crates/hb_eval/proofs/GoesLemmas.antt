@@ -27,7 +27,7 @@ use Rattle.hb_eval.specs.Calls.{call_in}
 use Rattle.hb_eval.specs.Steps.{InEach, Starts, Moves}
 use Rattle.hb_eval.proofs.CallFuelLemmas.{calls_keep}
 use Rattle.hb_eval.specs.Machine.{World}
-use Rattle.hb_eval.specs.Steps.{AreKnown, IsCall, arguments_in, IsPlain, HasNoFrame, Keeps, SameCalls, Steady, need_of}
+use Rattle.hb_eval.specs.Steps.{AreKnown, IsCall, arguments_in, IsPlain, HasNoFrame, Keeps, SameCalls, need_of}
 use Rattle.hb_eval.specs.Stacks.{Based, IsBased, IsKnownFrame, ended_of, calls_of}
 use Rattle.hb_eval.specs.Turns.{Goes}
 use Rattle.hb_eval.proofs.StackLemmas.{pushed_first}
@@ -62,9 +62,9 @@ pub keeps_moves : (t : Table) (front : Option Cont) (gives : Bool) (old new : St
 keeps_moves t front gives old new move h = (h [] (call_in t []) (calls_keep t [])).keeps
 
 -- what is neither part of a call nor the end of a frame
-pub plain_goes : (t : Table) (front : Option Cont) (frames : List Framed) (old new : State) (move : Move) → Keeps t front old new move → IsPlain move.under → IsPlain move.push → Steady old new → (AreKnown t old → AreKnown t new)
+pub plain_goes : (t : Table) (front : Option Cont) (frames : List Framed) (old new : State) (move : Move) → Keeps t front old new move → IsPlain move.under → IsPlain move.push → new.begun ≡ old.begun → SameCalls old new → (AreKnown t old → AreKnown t new)
     → Goes t (need_of front) 0 0 frames old frames new move
-plain_goes t front frames old new move k under push same known =
+plain_goes t front frames old new move k under push begun same known =
     let u = plain_none move.under under in
     let p = plain_none move.push push in
     record {
@@ -74,9 +74,9 @@ plain_goes t front frames old new move k under push same known =
       light = k.light;
       operands = k.operands;
       frames = omega (arith, u.0, p.0);
-      calls = omega (arith, u.1, p.1, same.begun, same.calls.made);
-      decided = λ h. omega (arith, h, same.calls.made, same.calls.decided);
-      entered = λ h. omega (arith, h, same.calls.entered, same.calls.decided);
+      calls = omega (arith, u.1, p.1, begun, same.made);
+      decided = λ h. omega (arith, h, same.made, same.decided);
+      entered = λ h. omega (arith, h, same.own, same.fresh, same.decided);
       based = based_on frames old new k.base k.size;
       known = λ h. record { state = known h.state; callers = h.callers };
     }
@@ -95,7 +95,7 @@ begun_goes t frames old new move k under push begun same known =
       frames = omega (arith, u.0, no_end move.push push);
       calls = omega (arith, u.1, few_calls move.push, begun, same.made);
       decided = λ h. omega (arith, h, same.made, same.decided);
-      entered = λ h. omega (arith, h, same.entered, same.decided);
+      entered = λ h. omega (arith, h, same.own, same.fresh, same.decided);
       based = based_on frames old new k.base k.size;
       known = λ h. record { state = known h.state; callers = h.callers };
     }
@@ -203,7 +203,7 @@ body_goes t f cl b at base frames new_frames old new ops vars m move lt place cl
       frames = omega (arith, ap length framed, length-append frames (fr ∷ []), p.0);
       calls = omega (arith, p.1, begun, same.made);
       decided = λ h. omega (arith, h, same.made, same.decided);
-      entered = λ h. omega (arith, h, same.entered, same.decided);
+      entered = λ h. omega (arith, h, same.own, same.fresh, same.decided);
       based = λ h. based_on new_frames mid new k.base k.size (record { top = omega (arith, place, ap length bound, length-append old.vars.items (bindings (params_of b) args)); below = subst (λ l. Based l base) (sym rev) (omega (arith, h.top, place), h.below) });
       known = λ h. record {
         state = known (record {

@@ -123,7 +123,7 @@ holding_entered c next frames f old new h is holds called others p = record {
 
 -- The same of a frame as `enter` gives it.
 pub holding_framed : (c : ℕ) (q : CallNo) (frames : List Frame) (f : Frame) (way : By) (old new : List Entry) → Holding c q.0 frames old → IsFramed c q new (entered.Frame f way) → OthersStay c q.0 old new → IsPrefix old new → Holding c (q.0 + 1) (frames ++ f ∷ []) new
-holding_framed c q frames f way old new h (fresh, is, holds, called) others p =
+holding_framed c q frames f way old new h (is, holds, called) others p =
     holding_entered c q.0 frames f old new h (ap (λ (n : CallNo). n.0) is)
     (subst (λ (n : CallNo). Holds c n.0 f.held.items new) (sym is) holds)
     (subst (λ (n : CallNo). HasCall c n.0 new) (sym is) called) others p

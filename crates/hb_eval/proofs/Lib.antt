@@ -24,6 +24,8 @@ pub mod MethodLemmas
 pub mod VariableLemmas
 pub mod HoldingLemmas
 pub mod GrowthLemmas
+pub mod KeepingLemmas
+pub mod GatheringLemmas
 pub mod MachineLemmas
 pub mod AdvanceLemmas
 pub mod RunLemmas

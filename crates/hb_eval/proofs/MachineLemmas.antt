@@ -72,7 +72,7 @@ lowers_moves t k gives old_frames old new_frames new h = record {
   frames = omega (arith, h.frames);
   calls = omega (arith, h.steady.begun, h.steady.calls.made);
   decided = λ d. omega (arith, d, h.steady.calls.made, h.steady.calls.decided);
-  entered = λ d. omega (arith, d, h.steady.calls.entered, h.steady.calls.decided);
+  entered = λ d. omega (arith, d, h.steady.calls.own, h.steady.calls.fresh, h.steady.calls.decided);
   based = h.based;
   known = h.known;
 }

@@ -3,6 +3,7 @@ use Rattle.std.proofs.Common.{◌≡◌, ◌≤◌, ℕ, List, [], ◌∷◌, �
 use Rattle.std.specs.Prelude.{Result, Ok, Err, reverse, if◌then◌else◌}
 use mathlib.Core.List.{IsPrefix}
 use Rattle.hb_types.specs.declared.ids.NodeId.{NodeId}
+use Rattle.hb_cache.specs.declared.kept.Kept.{Kept}
 use Rattle.hb_names.specs.declared.names.TheConstants.{NAMES_MAX}
 use Rattle.hb_names.specs.Names.{Name, place, IsFull}
 use Rattle.hb_names.proofs.NameLemmas.{place-append}
@@ -14,9 +15,9 @@ use Rattle.hb_eval.specs.declared.stop.Stop.{Stop}
 use Rattle.hb_eval.specs.declared.stop.Stop.TheVariants as stop
 use Rattle.hb_eval.specs.declared.state.State.{State}
 use Rattle.hb_eval.specs.declared.state.Move.{Move}
-use Rattle.hb_eval.specs.State.{St, Lost, Halt, reads}
+use Rattle.hb_eval.specs.State.{Answer, St, Lost, Halt, reads}
 use Rattle.hb_eval.specs.Methods.{with_key, keyed}
-use Rattle.hb_eval.specs.Machine.{resume, st_of}
+use Rattle.hb_eval.specs.Machine.{World, resume, st_of}
 use Rattle.hb_eval.specs.Tables.{Adds, ActsOn}
 use Rattle.hb_eval.proofs.TableLemmas.{reads_act}
 
@@ -78,3 +79,7 @@ full known c was now id name asked old new move is none after mv =
           ∙ ap (λ b. resume w ks (reverse old.operands.items) fs (if b then Halt stop.Full id.0 s else Lost)) (eq-eqb (length known) NAMES_MAX is.0)
           ∙ ap (λ q. resume w ks (reverse old.operands.items) fs (Halt stop.Full id.0 (st_of old q journal))) (sym (append-nil read));
     })
+
+-- what is kept plays no part in what acts come to
+pub acts_kept : (known : List Name) (c : ℕ) (was now : List Entry) (before : World → St → Answer) (old new : State) (cache : List (Option Kept)) (move : Move) → ActsOn known c was now before (record old { cache = cache }) new move → ActsOn known c was now before old new move
+acts_kept known c was now before old new cache move a = record { more = a.more; grows = a.grows; apart = a.apart; same = a.same }

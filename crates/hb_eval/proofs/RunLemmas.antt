@@ -1,5 +1,5 @@
 -- A machine and the run of its block.
-use Rattle.std.proofs.Common.{◌≡◌, ℕ, ◌+◌, ◌≤◌, List, [], ◌∷◌, ◌++◌, length, map, Some, None, Bool, true, false, cond, refl, sym, ap, ◌∙◌, arith, append_assoc, append-nil, Vec, Global}
+use Rattle.std.proofs.Common.{Option, ◌≡◌, ℕ, ◌+◌, ◌≤◌, List, [], ◌∷◌, ◌++◌, length, map, Some, None, Bool, true, false, cond, refl, sym, ap, ◌∙◌, arith, append_assoc, append-nil, Vec, Global}
 use Rattle.std.specs.Prelude.{reverse, count_by}
 use Rattle.std.proofs.lemmas.List.Sums.{sum_by-append, sum_by-cons}
 use Rattle.std.proofs.lemmas.List.{map-append}
@@ -13,6 +13,7 @@ use Rattle.hb_tree.specs.TreeAt.{tree_at, IsBlockAt}
 use Rattle.hb_names.specs.declared.names.TheConstants.{NAMES_MAX}
 use Rattle.hb_names.specs.Names.{Name}
 use Rattle.hb_tables.specs.declared.entry.Entry.{Entry}
+use Rattle.hb_cache.specs.declared.kept.Kept.{Kept}
 use Rattle.hb_tables.specs.declared.entry.Act.{Act}
 use Rattle.hb_tables.specs.declared.entry.By.TheVariants as by
 use Rattle.hb_tables.specs.Frames.{acts}
@@ -49,7 +50,7 @@ counted_on p n done l = sum_by-append (λ (e : ℕ × Act). cond (p e.1) 1 0) do
 counts_on : (old new : State) (n : ℕ) (done : List (ℕ × Act)) (more : List Act) → Counts old done → Tallies old new more → Counts new (done ++ tagged n more)
 counts_on old new n done more h g = record {
   decided = let e = counted_on is_call n done more in let a = h.decided in let b = g.decided in omega (arith, e, a, b);
-  entered = let e = counted_on (is_entered by.Fresh) n done more in let a = h.entered in let b = g.entered in omega (arith, e, a, b);
+  fresh = let e = counted_on (is_entered by.Fresh) n done more in let a = h.fresh in let b = g.fresh in omega (arith, e, a, b);
   own = let e = counted_on (is_entered by.Own) n done more in let a = h.own in let b = g.own in omega (arith, e, a, b);
   shared = let e = counted_on (is_entered by.Shared) n done more in let a = h.shared in let b = g.shared in omega (arith, e, a, b);
 }
@@ -82,26 +83,26 @@ block_items t names call (TBlock id (Trees e es)) s h = refl
 block_items t names call _ s h = absurd h
 
 -- the machine of a block, before its first expression
-new_answer : (t : Table) (names : List Name) (block : NodeId) (e : Stop) (steps : ℕ) (ops : Vec Value Global) (vars : Vec (NameId × Value) Global) (out : Vec ℕ Global) (journal : List Act)
+new_answer : (t : Table) (names : List Name) (block : NodeId) (e : Stop) (cache : List (Option Kept)) (steps : ℕ) (ops : Vec Value Global) (vars : Vec (NameId × Value) Global) (out : Vec ℕ Global) (journal : List Act)
     → vars.items ≡ [] → out.items ≡ []
-    → stands_at t names (cont.Items block 0 ∷ []) [] true false (record { operands = ops; vars = vars; output = out; acc = value.Nil; at = block; stop = e; base = 0; class = None; fuel = steps; begun = 0; made = 0; decided = 0; entered = 0 }) [] journal
+    → stands_at t names (cont.Items block 0 ∷ []) [] true false (record { operands = ops; vars = vars; output = out; acc = value.Nil; at = block; stop = e; base = 0; class = None; fuel = steps; begun = 0; made = 0; decided = 0; own = 0; fresh = 0; cache = cache }) [] journal
     ≡ ev_items t names (call_in t names 4096) (trees_from 0 (items_in (tree_at t block.0))) value.Nil (start steps journal)
 unfolding then_do
-new_answer t names block e steps ops vars out journal no_vars no_out =
+new_answer t names block e cache steps ops vars out journal no_vars no_out =
     let after : Bindings → List ℕ → Answer = λ vs printed. ev_items t names (call_in t names 4096) (trees_from 0 (items_in (tree_at t block.0))) value.Nil (record { vars = vs; self = None; fuel = steps; begun = 0; next = 1; output = printed; read = []; journal = journal }) in
     ap (λ (vs : Bindings). after vs out.items) no_vars ∙ ap (λ (l : List ℕ). after [] l) no_out
 
-pub new_stands : (t : Table) (known : List Name) (block : NodeId) (caller : CallerId) (e : Stop) (steps : ℕ) (ops : Vec Value Global) (vars : Vec (NameId × Value) Global) (out : Vec ℕ Global) (conts : Vec Cont Global) (frames : Vec Framed Global)
+pub new_stands : (t : Table) (known : List Name) (block : NodeId) (caller : CallerId) (e : Stop) (cache : List (Option Kept)) (steps : ℕ) (ops : Vec Value Global) (vars : Vec (NameId × Value) Global) (out : Vec ℕ Global) (conts : Vec Cont Global) (frames : Vec Framed Global)
     → vars.items ≡ [] → out.items ≡ [] → conts.items ≡ cont.Items block 0 ∷ [] → frames.items ≡ [] → IsBlockAt t block.0
-    → StandsFor t known block.0 steps [] (record { caller = caller; state = record { operands = ops; vars = vars; output = out; acc = value.Nil; at = block; stop = e; base = 0; class = None; fuel = steps; begun = 0; made = 0; decided = 0; entered = 0 }; conts = conts; frames = frames; gives = true; stops = false })
-new_stands t known block caller e steps ops vars out conts frames no_vars no_out one no_frames is = record {
+    → StandsFor t known block.0 steps [] (record { caller = caller; state = record { operands = ops; vars = vars; output = out; acc = value.Nil; at = block; stop = e; base = 0; class = None; fuel = steps; begun = 0; made = 0; decided = 0; own = 0; fresh = 0; cache = cache }; conts = conts; frames = frames; gives = true; stops = false })
+new_stands t known block caller e cache steps ops vars out conts frames no_vars no_out one no_frames is = record {
   same = λ names p few journal.
-      let x : State = record { operands = ops; vars = vars; output = out; acc = value.Nil; at = block; stop = e; base = 0; class = None; fuel = steps; begun = 0; made = 0; decided = 0; entered = 0 } in
+      let x : State = record { operands = ops; vars = vars; output = out; acc = value.Nil; at = block; stop = e; base = 0; class = None; fuel = steps; begun = 0; made = 0; decided = 0; own = 0; fresh = 0; cache = cache } in
       block_items t names (call_in t names 4096) (tree_at t block.0) (start steps journal) is.1
-      ∙ sym (new_answer t names block e steps ops vars out journal no_vars no_out)
+      ∙ sym (new_answer t names block e cache steps ops vars out journal no_vars no_out)
       ∙ ap (λ l. stands_at t names (reverse l) [] true false x [] journal) (sym one)
       ∙ ap (λ l. stands_at t names (reverse conts.items) l true false x [] journal) (sym no_frames);
-  counts = record { decided = refl; entered = refl; own = refl; shared = refl };
+  counts = record { decided = refl; own = refl; fresh = refl; shared = refl };
 }
 
 ended_run : (t : Table) (names : List Name) (g s : Bool) (ks : List Cont) (frames : List Framed) (x : State) (done : List (ℕ × Act)) → IsLast g s ks
@@ -114,7 +115,7 @@ ended_run t names false true ks frames x done h = refl
 -- what the run of an ended machine came to
 pub finished : (t : Table) (known names : List Name) (block steps : ℕ) (done : List (ℕ × Act)) (m : Machine) → HasEnded m → StandsFor t known block steps done m → IsPrefix known names → length names ≤ NAMES_MAX
     → (run : Run) × (script_run t names (call_in t names 4096) block steps (map (λ e. e.1) done) ≡ Some run)
-    × (record { caller = m.caller.0; outcome = outcome_of m.stops m.state.stop m.state.at m.state.acc; output = m.state.output.items; calls = m.state.decided; own = 0; shared = 0; fresh = m.state.entered } ≡ told m.caller.0 run)
+    × (record { caller = m.caller.0; outcome = outcome_of m.stops m.state.stop m.state.at m.state.acc; output = m.state.output.items; calls = m.state.decided; own = m.state.own; shared = 0; fresh = m.state.fresh } ≡ told m.caller.0 run)
 finished t known names block steps done m ended s p few =
     let x = m.state in
     let none = last_none m.gives m.stops m.conts.items ended in
@@ -125,8 +126,8 @@ finished t known names block steps done m ended s p few =
     ∙ ap run_of (s.same names p few [])
     ∙ ap (λ l. run_of (stands_at t names (reverse l) m.frames.items m.gives m.stops x done [])) none
     ∙ ended_run t names m.gives m.stops m.conts.items m.frames.items x done ended in
-    (run, is, go x.decided x.entered s.counts.decided s.counts.entered)
+    (run, is, go x.decided x.own x.fresh s.counts.decided s.counts.own s.counts.fresh)
   where
-    go : (decided entered : ℕ) → decided ≡ count_by (λ (e : ℕ × Act). is_call e.1) done → entered ≡ count_by (λ (e : ℕ × Act). is_entered by.Fresh e.1) done
-        → record { caller = m.caller.0; outcome = outcome_of m.stops m.state.stop m.state.at m.state.acc; output = m.state.output.items; calls = decided; own = 0; shared = 0; fresh = entered } ≡ told m.caller.0 (record { outcome = outcome_of m.stops m.state.stop m.state.at m.state.acc; output = m.state.output.items; acts = done })
-    go decided entered d f = rw (d, f, s.counts.own, s.counts.shared) refl
+    go : (decided own fresh : ℕ) → decided ≡ count_by (λ (e : ℕ × Act). is_call e.1) done → own ≡ count_by (λ (e : ℕ × Act). is_entered by.Own e.1) done → fresh ≡ count_by (λ (e : ℕ × Act). is_entered by.Fresh e.1) done
+        → record { caller = m.caller.0; outcome = outcome_of m.stops m.state.stop m.state.at m.state.acc; output = m.state.output.items; calls = decided; own = own; shared = 0; fresh = fresh } ≡ told m.caller.0 (record { outcome = outcome_of m.stops m.state.stop m.state.at m.state.acc; output = m.state.output.items; acts = done })
+    go decided own fresh d o f = rw (d, o, f, s.counts.shared) refl

@@ -25,7 +25,7 @@ use Rattle.hb_eval.specs.Tables.{Adds}
 same_number : (n : ℕ) → nat_eq n n ≡ true
 same_number n = eq-eqb n n refl
 
-own_act : (c : ℕ) (a : Act) → acts c (entry c a ∷ []) ≡ a ∷ []
+pub own_act : (c : ℕ) (a : Act) → acts c (entry c a ∷ []) ≡ a ∷ []
 own_act c a = ap (λ (b : Bool). cond b (a ∷ []) []) (same_number c)
 
 added_act : (c : ℕ) (old new : List Entry) (a : Act) → AddsEntry c old new a → acts c new ≡ acts c old ++ a ∷ []

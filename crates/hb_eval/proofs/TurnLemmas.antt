@@ -31,12 +31,12 @@ counted : {A : Type 0} (p : A → Bool) (a b : List A) → count_by p (a ++ b) �
 counted p a b = sum_by-append (λ x. cond (p x) 1 0) a b
 
 no_tallies : (old new : State) → SameCalls old new → Tallies old new []
-no_tallies old new h = record { decided = omega (arith, h.decided); entered = omega (arith, h.entered); own = refl; shared = refl }
+no_tallies old new h = record { decided = omega (arith, h.decided); own = omega (arith, h.own); fresh = omega (arith, h.fresh); shared = refl }
 
 pub tallies_on : (old mid new : State) (a b : List Act) → Tallies old mid a → Tallies mid new b → Tallies old new (a ++ b)
 tallies_on old mid new a b p q = record {
   decided = omega (arith, p.decided, q.decided, counted is_call a b);
-  entered = omega (arith, p.entered, q.entered, counted (is_entered by.Fresh) a b);
+  fresh = omega (arith, p.fresh, q.fresh, counted (is_entered by.Fresh) a b);
   own = omega (arith, p.own, q.own, counted (is_entered by.Own) a b);
   shared = omega (arith, p.shared, q.shared, counted (is_entered by.Shared) a b);
 }
@@ -81,17 +81,17 @@ reads_from known c was now old new first second third e a = record {
 }
 
 -- the same from a state with the same counts
-pub reads_before : (known : List Name) (c : ℕ) (was now : List Entry) (old mid new : State) (first second third : Telling) → mid.decided ≡ old.decided → mid.entered ≡ old.entered
+pub reads_before : (known : List Name) (c : ℕ) (was now : List Entry) (old mid new : State) (first second third : Telling) → mid.decided ≡ old.decided → mid.own ≡ old.own → mid.fresh ≡ old.fresh
     → ((names : List Name) (ks : List Cont) (read : List (ℕ × Act)) (journal : List Act) → first names ks read journal ≡ second names ks read journal)
     → Reads known c was now mid new second third → Reads known c was now old new first third
-reads_before known c was now old mid new first second third decided entered e a = record {
+reads_before known c was now old mid new first second third decided own fresh e a = record {
   more = a.more;
   grows = a.grows;
   same = λ names p few ks read journal. e names ks read (a.more ++ journal) ∙ a.same names p few ks read journal;
   tallies = record {
     decided = a.tallies.decided ∙ ap (λ n. n + count_by is_call a.more) decided;
-    entered = a.tallies.entered ∙ ap (λ n. n + count_by (is_entered by.Fresh) a.more) entered;
-    own = a.tallies.own;
+    own = a.tallies.own ∙ ap (λ n. n + count_by (is_entered by.Own) a.more) own;
+    fresh = a.tallies.fresh ∙ ap (λ n. n + count_by (is_entered by.Fresh) a.more) fresh;
     shared = a.tallies.shared;
   };
 }

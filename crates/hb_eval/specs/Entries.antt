@@ -1,17 +1,21 @@
 -- How the machine enters into a call.
-use Rattle.std.specs.Prelude.{◌≡◌, ℕ, ◌-◌, List, [], ◌∷◌, Bool, true, false, Option, Some, None}
+use Rattle.std.specs.Prelude.{◌≡◌, ℕ, ◌+◌, ◌-◌, List, [], ◌∷◌, Bool, true, false, Option, Some, None, if◌then◌else◌}
 use Rattle.hb_names.specs.Names.{Name, place, with_name, IsFull}
 use Rattle.hb_types.specs.declared.ids.ClassId.{ClassId}
 use Rattle.hb_tree.specs.declared.parts.Body.{Body}
 use Rattle.hb_tree.specs.Nodes.{params_of}
+use Rattle.hb_tables.specs.declared.entry.By.{By}
+use Rattle.hb_tables.specs.declared.entry.By.TheVariants as by
 use Rattle.hb_tables.specs.declared.entry.Verdict.{Verdict}
 use Rattle.hb_tables.specs.declared.entry.Verdict.TheVariants as verdict
 use Rattle.hb_call.specs.declared.frame.Frame.{Frame}
+use Rattle.hb_eval.specs.declared.state.State.{State}
 use Rattle.hb_eval.specs.declared.value.Value.{Value}
 use Rattle.hb_eval.specs.declared.stop.Stop.{Stop}
 use Rattle.hb_eval.specs.declared.stop.Stop.TheVariants as stop
 use Rattle.hb_eval.specs.State.{St, Answer, Lost}
 use Rattle.hb_eval.specs.Calls.{bindings, leave}
+use Rattle.hb_eval.specs.Runs.{same_way}
 use Rattle.hb_eval.specs.Machine.{World, meaning}
 use Rattle.hb_eval.specs.Stacks.{holds_of}
 
@@ -25,6 +29,14 @@ abbrev pub entered : World → (room : ℕ) → Frame → ClassId → Body → L
 entered w room f c b [] s = Lost
 entered w room f c b (v ∷ vs) s =
     leave f.q.0 (holds_of f.held.items) s.vars s.self (meaning w (room - 1) b.block.0 (record s { vars = bindings (params_of b) vs; self = Some c }))
+
+-- one more of those that enter one way, where this is the way
+abbrev pub with_entry : (way found : By) → ℕ → ℕ
+with_entry way found n = if same_way way found then n + 1 else n
+
+-- a call that entered this way was counted
+abbrev pub counted : By → State → State
+counted way x = record x { made = x.made + 1; decided = x.decided + 1; own = with_entry by.Own way x.own; fresh = with_entry by.Fresh way x.fresh }
 
 -- why a script stops at a call that was decided, where its body does not run
 abbrev pub refusal : Verdict → Option Stop

@@ -19,4 +19,6 @@ pub mod Quiet
 pub mod Staying
 pub mod Naming
 pub mod Holding
+pub mod Keeping
+pub mod Gathering
 pub mod Machines

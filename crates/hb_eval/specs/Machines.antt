@@ -10,6 +10,7 @@ use Rattle.hb_tables.specs.declared.entry.Entry.{Entry}
 use Rattle.hb_tables.specs.declared.entry.Act.{Act}
 use Rattle.hb_tables.specs.declared.entry.By.TheVariants as by
 use Rattle.hb_call.specs.Growth.{Grown}
+use Rattle.hb_call.specs.OwnCache.{IsOwnCache}
 use Rattle.hb_eval.specs.declared.cont.Cont.{Cont}
 use Rattle.hb_eval.specs.declared.cont.Cont.TheVariants as cont
 use Rattle.hb_eval.specs.declared.state.State.{State}
@@ -57,7 +58,7 @@ pub record IsFineMachine (t : Table) (m : Machine) : Type 0 where
   pub frames : length m.frames.items ≡ sum_over frames_in (reverse m.conts.items)
   pub calls : m.state.made + sum_over calls_in (reverse m.conts.items) ≤ m.state.begun
   pub decided : m.state.decided ≤ m.state.made
-  pub entered : m.state.entered ≤ m.state.decided
+  pub entered : m.state.own + m.state.fresh ≤ m.state.decided
   pub based : IsBased m.frames.items m.state
   pub known : AllKnown t m.frames.items m.state
   pub time : IsTimed m.stops m.state
@@ -65,8 +66,8 @@ pub record IsFineMachine (t : Table) (m : Machine) : Type 0 where
 -- The calls among the acts are counted.
 pub record Counts (x : State) (done : List (ℕ × Act)) : Type 0 where
   pub decided : x.decided ≡ count_by (λ e. is_call e.1) done
-  pub entered : x.entered ≡ count_by (λ e. is_entered by.Fresh e.1) done
-  pub own : count_by (λ e. is_entered by.Own e.1) done ≡ 0
+  pub own : x.own ≡ count_by (λ e. is_entered by.Own e.1) done
+  pub fresh : x.fresh ≡ count_by (λ e. is_entered by.Fresh e.1) done
   pub shared : count_by (λ e. is_entered by.Shared e.1) done ≡ 0
 
 -- The machine stands for the run of a block with so many steps behind these acts: whatever acts and names come behind, the meaning of the block is what the machine makes of the rest.
@@ -134,6 +135,7 @@ pub record Carries (t : Table) (c : ℕ) (known was asked : List Name) (past now
   pub fuel : new.state.fuel ≡ old.state.fuel
   pub stops : old.stops ≡ true → new.stops ≡ true
   pub grown : Grown t c known was asked past now
+  pub own : IsOwnCache t known asked c now new.state.cache
 
 -- An expression begins, and some acts come.
 pub record Begins (t : Table) (c : ℕ) (known was asked : List Name) (past now : List Entry) (old new : Machine) : Type 0 where
@@ -142,6 +144,7 @@ pub record Begins (t : Table) (c : ℕ) (known was asked : List Name) (past now 
   pub begun : new.state.begun ≡ old.state.begun + 1
   pub fed : IsFed new.stops old.state.fuel new.state.fuel
   pub grown : Grown t c known was asked past now
+  pub own : IsOwnCache t known asked c now new.state.cache
 
 -- Nothing begins, and the answer is the same.
 pub record Opens (t : Table) (old new : Machine) : Type 0 where
@@ -156,6 +159,7 @@ pub record Advances (t : Table) (c : ℕ) (known was asked : List Name) (past no
   pub reads : Reads known c past now old.state new.state (of_machine t old) (of_machine t new)
   pub fine : IsFineMachine t new
   pub grown : Grown t c known was asked past now
+  pub own : IsOwnCache t known asked c now new.state.cache
 
 -- how a run ended
 abbrev pub outcome_of : (stops : Bool) → Stop → NodeId → Value → Outcome

@@ -9,3 +9,13 @@ IsQuiet (cont.Arguments id n) = ⊥
 IsQuiet (cont.Method id) = ⊥
 IsQuiet cont.Frame = ⊥
 IsQuiet _ = Unit {0}
+
+-- it is part of an operator, a variable, a block, a choice or a loop
+abbrev pub IsFrequent : Cont → Type 0
+IsFrequent (cont.Receiver id) = ⊥
+IsFrequent (cont.Arguments id n) = ⊥
+IsFrequent (cont.Method id) = ⊥
+IsFrequent cont.Frame = ⊥
+IsFrequent (cont.Print id) = ⊥
+IsFrequent cont.ToStr = ⊥
+IsFrequent _ = Unit {0}

@@ -109,13 +109,21 @@ IsFed true old new = (old ≡ new + 1) ⊎ ((old ≡ 0) × (new ≡ 0))
 pub record SameCalls (old new : State) : Type 0 where
   pub made : new.made ≡ old.made
   pub decided : new.decided ≡ old.decided
-  pub entered : new.entered ≡ old.entered
+  pub own : new.own ≡ old.own
+  pub fresh : new.fresh ≡ old.fresh
 
 -- nothing has begun, and no call was made
+pub record Still (old new : State) : Type 0 where
+  pub begun : new.begun ≡ old.begun
+  pub fuel : new.fuel ≡ old.fuel
+  pub calls : SameCalls old new
+
+-- nothing has begun, no call was made, and the same checks are kept
 pub record Steady (old new : State) : Type 0 where
   pub begun : new.begun ≡ old.begun
   pub fuel : new.fuel ≡ old.fuel
   pub calls : SameCalls old new
+  pub cache : new.cache ≡ old.cache
 
 -- the classes of all objects in hand are classes of the program
 pub record AreKnown (t : Table) (x : State) : Type 0 where

@@ -53,8 +53,8 @@ after t m frames x names ks read journal = stands_at t names (onto m.push (onto 
 -- the calls among these acts were counted
 pub record Tallies (old new : State) (more : List Act) : Type 0 where
   pub decided : new.decided ≡ old.decided + count_by is_call more
-  pub entered : new.entered ≡ old.entered + count_by (is_entered by.Fresh) more
-  pub own : count_by (is_entered by.Own) more ≡ 0
+  pub own : new.own ≡ old.own + count_by (is_entered by.Own) more
+  pub fresh : new.fresh ≡ old.fresh + count_by (is_entered by.Fresh) more
   pub shared : count_by (is_entered by.Shared) more ≡ 0
 
 -- Some acts come to the caller's journal. Whatever comes behind them, and whichever names come behind the known ones, the run has the same answer.
@@ -75,7 +75,7 @@ pub record Goes (t : Table) (taken ended pending : ℕ) (old_frames : List Frame
   pub frames : length new_frames + ended ≡ length old_frames + ended_of move.under + ended_of move.push
   pub calls : new.made + calls_of move.under + calls_of move.push + old.begun ≤ old.made + pending + new.begun
   pub decided : old.decided ≤ old.made → new.decided ≤ new.made
-  pub entered : old.entered ≤ old.decided → new.entered ≤ new.decided
+  pub entered : old.own + old.fresh ≤ old.decided → new.own + new.fresh ≤ new.decided
   pub based : IsBased old_frames old → IsBased new_frames new
   pub known : AllKnown t old_frames old → AllKnown t new_frames new
 
@@ -89,11 +89,11 @@ pub record Ready (t : Table) (k : Cont) (frames : List Framed) (x : State) : Typ
   pub calls : x.made + calls_in k ≤ x.begun
   pub few : x.begun < 2 ^ 32
   pub decided : x.decided ≤ x.made
-  pub entered : x.entered ≤ x.decided
+  pub entered : x.own + x.fresh ≤ x.decided
 
 -- one more call has its number
 pub record MayCall (x : State) : Type 0 where
   pub made : x.made < x.begun
   pub few : x.begun < 2 ^ 32
   pub decided : x.decided ≤ x.made
-  pub entered : x.entered ≤ x.decided
+  pub entered : x.own + x.fresh ≤ x.decided

@@ -31,6 +31,7 @@ fn literal(alloc: Global, prog: &Program, text: TextId) -> Result<Value, AllocEr
 
 /// An expression begins. It takes one unit of fuel, or stops where there is none.
 #[tactic(auto, unfolding(crate::specs::State::then_do, crate::specs::State::begin))]
+#[inline(always)]
 pub(crate) fn begin(alloc: Global, prog: &Program, state: &mut State) -> Result<Move, AllocError>
     requires expr { IsExprAt prog.now state.old.at.0 }
     requires quiet { AsksNoTable (tree_at prog.now state.old.at.0) }
@@ -41,6 +42,7 @@ pub(crate) fn begin(alloc: Global, prog: &Program, state: &mut State) -> Result<
     ensures begun { state.new.begun ≡ state.old.begun + 1 }
     ensures fuel { IfOk result (λ m. IsFed m.stops state.old.fuel state.new.fuel) }
     ensures calls { SameCalls state.old state.new }
+    ensures cache { state.new.cache ≡ state.old.cache }
     ensures known { AreKnown prog.now state.old → OnOk result (AreKnown prog.now state.new) }
 {
     let id = state.at;

@@ -42,6 +42,7 @@ fn items_of(prog: &Program, block: NodeId) -> &[NodeId]
 }
 
 // What comes behind the items of a block that are done, the last of them with the value in hand.
+#[inline(always)]
 fn next_item(prog: &Program, block: NodeId, at: usize, state: &mut State) -> Move
     requires block { IsBlockAt prog.now block.0 }
     ensures starts { InEach prog.now (Starts (λ w room s. items_from w room (tree_at w.program block.0) at state.old.acc s) state.old state.new result) }
@@ -64,6 +65,7 @@ fn next_item(prog: &Program, block: NodeId, at: usize, state: &mut State) -> Mov
 }
 
 /// A block begins.
+#[inline(always)]
 pub(crate) fn start_block(prog: &Program, block: NodeId, state: &mut State) -> Move
     requires { IsBlockAt prog.now block.0 }
     ensures starts { InEach prog.now (Starts (λ w room. meaning w room block.0) state.old state.new result) }
@@ -77,6 +79,7 @@ pub(crate) fn start_block(prog: &Program, block: NodeId, state: &mut State) -> M
 }
 
 /// One of two blocks begins.
+#[inline(always)]
 #[tactic(auto, unfolding(crate::specs::State::then_do))]
 pub(crate) fn choose(prog: &Program, a: NodeId, b: NodeId, state: &mut State) -> Move
     requires fine { IsFine prog.now (cont.Choose a b) }
@@ -94,6 +97,7 @@ pub(crate) fn choose(prog: &Program, a: NodeId, b: NodeId, state: &mut State) ->
 }
 
 /// A loop's condition has a value.
+#[inline(always)]
 #[tactic(auto, unfolding(crate::specs::State::then_do))]
 pub(crate) fn test(prog: &Program, condition: NodeId, block: NodeId, state: &mut State) -> Move
     requires fine { IsFine prog.now (cont.Test condition block) }
@@ -112,6 +116,7 @@ pub(crate) fn test(prog: &Program, condition: NodeId, block: NodeId, state: &mut
 }
 
 /// A loop's condition begins again.
+#[inline(always)]
 #[tactic(auto, unfolding(crate::specs::State::then_do))]
 pub(crate) fn turn(prog: &Program, condition: NodeId, block: NodeId, state: &mut State) -> Move
     requires fine { IsFine prog.now (cont.Turn condition block) }
@@ -125,6 +130,7 @@ pub(crate) fn turn(prog: &Program, condition: NodeId, block: NodeId, state: &mut
 }
 
 /// The items of a block go on.
+#[inline(always)]
 #[tactic(auto, unfolding(crate::specs::State::then_do))]
 pub(crate) fn items(prog: &Program, block: NodeId, at: u32, state: &mut State) -> Move
     requires fine { IsFine prog.now (cont.Items block at) }

@@ -17,6 +17,7 @@ ghost use Rattle.hb_tables.specs.Rows.{body_at};
 ghost use Rattle.hb_call.specs.Entering.{Enters, IsFullAtOnce, IsFullLater, IsRefused};
 ghost use Rattle.hb_call.specs.Growth.{Grown};
 ghost use Rattle.hb_call.specs.Held.{stands};
+ghost use Rattle.hb_call.specs.OwnCache.{IsOwnCache};
 ghost use Rattle.hb_eval.specs.declared.cont.Cont.TheVariants as cont;
 ghost use Rattle.hb_eval.specs.declared.value.Value.TheVariants as value;
 ghost use Rattle.hb_eval.specs.Calls as calls;
@@ -24,7 +25,8 @@ ghost use Rattle.hb_eval.specs.Machine.{arguments_from};
 ghost use Rattle.hb_eval.specs.Steps.{IsCall, IsPlain, SameCalls, Steady, arguments_in, weigh_push};
 ghost use Rattle.hb_eval.specs.Stacks.{AllKnown};
 ghost use Rattle.hb_eval.specs.Turns.{Goes, MayCall, Reads, Ready, after, with_operands, with_value};
-ghost use Rattle.hb_eval.specs.Entries.{IsPlaced, asked_again, calling, entered, refusal};
+ghost use Rattle.hb_eval.specs.Entries.{IsPlaced, asked_again, calling, counted, entered, refusal};
+ghost use Rattle.hb_eval.specs.Gathering.{Shares};
 ghost use Rattle.hb_eval.specs.Holding.{Holding, frames_of};
 ghost use Rattle.hb_eval.specs.Staying.{Stays};
 
@@ -36,10 +38,10 @@ use crate::moves::{first, halt, under};
 use crate::state::{Move, State};
 use crate::stop::Stop;
 use crate::value::Value;
-use hb_call::{CallFail, Entered, Frame, enter};
+use hb_call::{CallFail, Entered, Frame, Share, enter};
 use hb_names::{NameFail, Names};
 use hb_tables::desk::Desk;
-use hb_tables::entry::Verdict;
+use hb_tables::entry::{By, Verdict};
 use hb_tree::node::{Node, arguments};
 use hb_tree::parts::Body;
 use hb_tree::program::Program;
@@ -60,9 +62,11 @@ pub(crate) fn receiver<D: Desk, N: Names>(
     id: NodeId,
     state: &mut State,
     frames: &mut Vec<Framed>,
+    share: &mut Share,
 ) -> Result<Move, AllocError>
     requires ready { Ready prog.now (cont.Receiver id) frames.old.items state.old }
     requires holding { Holding (D.fixed desk.old).caller (state.old.made + 1) (frames_of frames.old.items) (D.front desk.old) }
+    requires own { IsOwnCache prog.now (N.known names.old) (N.asked names.old) (D.fixed desk.old).caller (D.front desk.old) state.old.cache }
     ensures reads { IfOk result (λ m. Reads (N.known names.new) (D.fixed desk.old).caller (D.front desk.old) (D.front desk.new) state.old state.new
         (with_value prog.now (cont.Receiver id) frames.old.items state.old) (after prog.now m frames.new.items state.new)) }
     ensures goes { IfOk result (Goes prog.now (0) 0 1 frames.old.items state.old frames.new.items state.new) }
@@ -71,11 +75,13 @@ pub(crate) fn receiver<D: Desk, N: Names>(
     ensures holding { Holding (D.fixed desk.old).caller (state.new.made + 1) (frames_of frames.new.items) (D.front desk.new) }
     ensures stays { Stays (D.fixed desk.old) (D.fixed desk.new) (D.front desk.old) (D.front desk.new) (N.known names.old) (N.known names.new) }
     ensures grown { OnOk result (Grown prog.now (D.fixed desk.old).caller (N.known names.new) (N.asked names.old) (N.asked names.new) (D.front desk.old) (D.front desk.new)) }
+    ensures own { OnOk result (IsOwnCache prog.now (N.known names.new) (N.asked names.new) (D.fixed desk.old).caller (D.front desk.new) state.new.cache) }
+    ensures shares { OnOk result (Shares prog.now (N.known names.new) (D.fixed desk.old).caller (D.front desk.old) (D.front desk.new) share.old share.new) }
     ensures alike { N.alike names.old names.new }
 {
     let value = mem::replace(&mut state.acc, Value::Nil);
     state.operands.push(value)?;
-    next_argument(alloc, prog, desk, names, id, 0, state, frames)
+    next_argument(alloc, prog, desk, names, id, 0, state, frames, share)
 }
 
 /// An argument of a call is there, behind so many others.
@@ -89,9 +95,11 @@ pub(crate) fn argument<D: Desk, N: Names>(
     count: u8,
     state: &mut State,
     frames: &mut Vec<Framed>,
+    share: &mut Share,
 ) -> Result<Move, AllocError>
     requires ready { Ready prog.now (cont.Arguments id count) frames.old.items state.old }
     requires holding { Holding (D.fixed desk.old).caller (state.old.made + 1) (frames_of frames.old.items) (D.front desk.old) }
+    requires own { IsOwnCache prog.now (N.known names.old) (N.asked names.old) (D.fixed desk.old).caller (D.front desk.old) state.old.cache }
     ensures reads { IfOk result (λ m. Reads (N.known names.new) (D.fixed desk.old).caller (D.front desk.old) (D.front desk.new) state.old state.new
         (with_value prog.now (cont.Arguments id count) frames.old.items state.old) (after prog.now m frames.new.items state.new)) }
     ensures goes { IfOk result (Goes prog.now (suc count) 0 1 frames.old.items state.old frames.new.items state.new) }
@@ -100,11 +108,23 @@ pub(crate) fn argument<D: Desk, N: Names>(
     ensures holding { Holding (D.fixed desk.old).caller (state.new.made + 1) (frames_of frames.new.items) (D.front desk.new) }
     ensures stays { Stays (D.fixed desk.old) (D.fixed desk.new) (D.front desk.old) (D.front desk.new) (N.known names.old) (N.known names.new) }
     ensures grown { OnOk result (Grown prog.now (D.fixed desk.old).caller (N.known names.new) (N.asked names.old) (N.asked names.new) (D.front desk.old) (D.front desk.new)) }
+    ensures own { OnOk result (IsOwnCache prog.now (N.known names.new) (N.asked names.new) (D.fixed desk.old).caller (D.front desk.new) state.new.cache) }
+    ensures shares { OnOk result (Shares prog.now (N.known names.new) (D.fixed desk.old).caller (D.front desk.old) (D.front desk.new) share.old share.new) }
     ensures alike { N.alike names.old names.new }
 {
     let value = mem::replace(&mut state.acc, Value::Nil);
     state.operands.push(value)?;
-    next_argument(alloc, prog, desk, names, id, count + 1, state, frames)
+    next_argument(
+        alloc,
+        prog,
+        desk,
+        names,
+        id,
+        count + 1,
+        state,
+        frames,
+        share,
+    )
 }
 
 // The next argument begins, or all are there.
@@ -118,6 +138,7 @@ fn next_argument<D: Desk, N: Names>(
     count: u8,
     state: &mut State,
     frames: &mut Vec<Framed>,
+    share: &mut Share,
 ) -> Result<Move, AllocError>
     requires call { IsExprAt prog.now id.0 × IsCall (tree_at prog.now id.0) }
     requires count { count ≤ arguments_in (tree_at prog.now id.0) }
@@ -125,6 +146,7 @@ fn next_argument<D: Desk, N: Names>(
     requires may { MayCall state.old }
     requires known { AllKnown prog.now frames.old.items state.old }
     requires holding { Holding (D.fixed desk.old).caller (state.old.made + 1) (frames_of frames.old.items) (D.front desk.old) }
+    requires own { IsOwnCache prog.now (N.known names.old) (N.asked names.old) (D.fixed desk.old).caller (D.front desk.old) state.old.cache }
     ensures reads { IfOk result (λ m. Reads (N.known names.new) (D.fixed desk.old).caller (D.front desk.old) (D.front desk.new) state.old state.new
         (with_operands prog.now (length state.old.operands.items - count - 1) (λ w room vs s. arguments_from w room (tree_at prog.now id.0) count vs s) frames.old.items state.old) (after prog.now m frames.new.items state.new)) }
     ensures goes { IfOk result (Goes prog.now (suc count) 0 1 frames.old.items state.old frames.new.items state.new) }
@@ -133,6 +155,8 @@ fn next_argument<D: Desk, N: Names>(
     ensures holding { Holding (D.fixed desk.old).caller (state.new.made + 1) (frames_of frames.new.items) (D.front desk.new) }
     ensures stays { Stays (D.fixed desk.old) (D.fixed desk.new) (D.front desk.old) (D.front desk.new) (N.known names.old) (N.known names.new) }
     ensures grown { OnOk result (Grown prog.now (D.fixed desk.old).caller (N.known names.new) (N.asked names.old) (N.asked names.new) (D.front desk.old) (D.front desk.new)) }
+    ensures own { OnOk result (IsOwnCache prog.now (N.known names.new) (N.asked names.new) (D.fixed desk.old).caller (D.front desk.new) state.new.cache) }
+    ensures shares { OnOk result (Shares prog.now (N.known names.new) (D.fixed desk.old).caller (D.front desk.old) (D.front desk.new) share.old share.new) }
     ensures alike { N.alike names.old names.new }
 {
     match prog.node(id) {
@@ -143,7 +167,7 @@ fn next_argument<D: Desk, N: Names>(
                 Ok(first(state, Cont::Arguments(id, count), ids[next]))
             } else {
                 let at = state.operands.len() - next - 1;
-                call(alloc, prog, desk, names, id, name, at, state, frames)
+                call(alloc, prog, desk, names, id, name, at, state, frames, share)
             }
         }
         _ => unreachable!(),
@@ -187,6 +211,7 @@ fn call<D: Desk, N: Names>(
     at: usize,
     state: &mut State,
     frames: &mut Vec<Framed>,
+    share: &mut Share,
 ) -> Result<Move, AllocError>
     requires name { name.0 < length prog.now.names }
     requires at { at < length state.old.operands.items }
@@ -194,6 +219,7 @@ fn call<D: Desk, N: Names>(
     requires may { MayCall state.old }
     requires known { AllKnown prog.now frames.old.items state.old }
     requires holding { Holding (D.fixed desk.old).caller (state.old.made + 1) (frames_of frames.old.items) (D.front desk.old) }
+    requires own { IsOwnCache prog.now (N.known names.old) (N.asked names.old) (D.fixed desk.old).caller (D.front desk.old) state.old.cache }
     ensures reads { IfOk result (λ m. Reads (N.known names.new) (D.fixed desk.old).caller (D.front desk.old) (D.front desk.new) state.old state.new
         (with_operands prog.now at (λ w room vs s. calling w room id.0 name.0 vs s) frames.old.items state.old) (after prog.now m frames.new.items state.new)) }
     ensures goes { IfOk result (Goes prog.now (length state.old.operands.items - at) 0 1 frames.old.items state.old frames.new.items state.new) }
@@ -202,12 +228,16 @@ fn call<D: Desk, N: Names>(
     ensures holding { Holding (D.fixed desk.old).caller (state.new.made + 1) (frames_of frames.new.items) (D.front desk.new) }
     ensures stays { Stays (D.fixed desk.old) (D.fixed desk.new) (D.front desk.old) (D.front desk.new) (N.known names.old) (N.known names.new) }
     ensures grown { OnOk result (Grown prog.now (D.fixed desk.old).caller (N.known names.new) (N.asked names.old) (N.asked names.new) (D.front desk.old) (D.front desk.new)) }
+    ensures own { OnOk result (IsOwnCache prog.now (N.known names.new) (N.asked names.new) (D.fixed desk.old).caller (D.front desk.new) state.new.cache) }
+    ensures shares { OnOk result (Shares prog.now (N.known names.new) (D.fixed desk.old).caller (D.front desk.old) (D.front desk.new) share.old share.new) }
     ensures alike { N.alike names.old names.new }
 {
     match receiver_class(&state.operands[at]) {
         Err(stop) => Ok(refuse(state, at, stop, id)),
         Ok(_) if frames.len() >= FRAMES_MAX => Ok(refuse(state, at, Stop::Deep, id)),
-        Ok(class) => decide(alloc, prog, desk, names, id, name, class, at, state, frames),
+        Ok(class) => decide(
+            alloc, prog, desk, names, id, name, class, at, state, frames, share,
+        ),
     }
 }
 
@@ -224,6 +254,7 @@ fn decide<D: Desk, N: Names>(
     at: usize,
     state: &mut State,
     frames: &mut Vec<Framed>,
+    share: &mut Share,
 ) -> Result<Move, AllocError>
     requires name { name.0 < length prog.now.names }
     requires at { at < length state.old.operands.items }
@@ -233,6 +264,7 @@ fn decide<D: Desk, N: Names>(
     requires object { (d : Values) → calls.receiver (get_or state.old.operands.items at d) ≡ Ok class }
     requires room { length frames.old.items < 4096 }
     requires holding { Holding (D.fixed desk.old).caller (state.old.made + 1) (frames_of frames.old.items) (D.front desk.old) }
+    requires own { IsOwnCache prog.now (N.known names.old) (N.asked names.old) (D.fixed desk.old).caller (D.front desk.old) state.old.cache }
     ensures reads { IfOk result (λ m. Reads (N.known names.new) (D.fixed desk.old).caller (D.front desk.old) (D.front desk.new) state.old state.new
         (with_operands prog.now at (λ w room vs s. calling w room id.0 name.0 vs s) frames.old.items state.old) (after prog.now m frames.new.items state.new)) }
     ensures goes { IfOk result (Goes prog.now (length state.old.operands.items - at) 0 1 frames.old.items state.old frames.new.items state.new) }
@@ -241,16 +273,27 @@ fn decide<D: Desk, N: Names>(
     ensures holding { Holding (D.fixed desk.old).caller (state.new.made + 1) (frames_of frames.new.items) (D.front desk.new) }
     ensures stays { Stays (D.fixed desk.old) (D.fixed desk.new) (D.front desk.old) (D.front desk.new) (N.known names.old) (N.known names.new) }
     ensures grown { OnOk result (Grown prog.now (D.fixed desk.old).caller (N.known names.new) (N.asked names.old) (N.asked names.new) (D.front desk.old) (D.front desk.new)) }
+    ensures own { OnOk result (IsOwnCache prog.now (N.known names.new) (N.asked names.new) (D.fixed desk.old).caller (D.front desk.new) state.new.cache) }
+    ensures shares { OnOk result (Shares prog.now (N.known names.new) (D.fixed desk.old).caller (D.front desk.old) (D.front desk.new) share.old share.new) }
     ensures alike { N.alike names.old names.new }
 {
     let args = kinds(&state.operands[at + 1..]);
     frames.reserve(1)?;
     let q = CallNo(state.made + 1);
-    match enter(alloc, prog, q, class, name, args, desk, names) {
-        Ok(Entered::Frame(frame, _)) => {
-            state.made += 1;
-            state.decided += 1;
-            state.entered += 1;
+    match enter(
+        alloc,
+        prog,
+        q,
+        class,
+        name,
+        args,
+        desk,
+        names,
+        &mut state.cache,
+        share,
+    ) {
+        Ok(Entered::Frame(frame, way)) => {
+            count(state, way);
             start_body(prog, frame, class, at, state, frames)
         }
         Ok(Entered::Refused(verdict)) => match stop_of(verdict) {
@@ -265,6 +308,21 @@ fn decide<D: Desk, N: Names>(
             }
         }
         Err(CallFail::NoMemory) => Err(AllocError),
+    }
+}
+
+// A call that entered this way is counted.
+#[inline(always)]
+fn count(state: &mut State, way: By)
+    requires may { MayCall state.old }
+    ensures { state.new ≡ counted way state.old }
+{
+    state.made += 1;
+    state.decided += 1;
+    match way {
+        By::Own => state.own += 1,
+        By::Shared => {}
+        By::Fresh => state.fresh += 1,
     }
 }
 

@@ -9,6 +9,7 @@ ghost use Rattle.hb_call.specs.Growth.{Grown};
 ghost use Rattle.hb_eval.specs.declared.cont.Cont.TheVariants as cont;
 ghost use Rattle.hb_eval.specs.Machine.{need, frames_in};
 ghost use Rattle.hb_eval.specs.Steps.{Steady};
+ghost use Rattle.hb_eval.specs.Keeping.{StaysOwn};
 ghost use Rattle.hb_eval.specs.Holding.{Holding, frames_of};
 ghost use Rattle.hb_eval.specs.Turns.{Goes, Reads, after, with_value};
 ghost use Rattle.hb_eval.specs.Ends.{Leaves, Lowers, with_stop};
@@ -29,6 +30,7 @@ fn end<D: Desk>(desk: &mut D, state: &mut State, frames: &mut Vec<Framed>)
     ensures holding { Holding (D.fixed desk.old).caller (state.new.made + 1) (frames_of frames.new.items) (D.front desk.new) }
     ensures kept { IsPrefix (D.front desk.old) (D.front desk.new) }
     ensures grown { (t : Table) (names asked : List Name) → Grown t (D.fixed desk.old).caller names asked asked (D.front desk.old) (D.front desk.new) }
+    ensures own { StaysOwn (D.fixed desk.old).caller (D.front desk.old) (D.front desk.new) state.old.cache state.new.cache }
     ensures legal { IsLegal (D.fixed desk.old).limit (D.front desk.old) → IsLegal (D.fixed desk.old).limit (D.front desk.new) }
     ensures fixed { D.fixed desk.new ≡ D.fixed desk.old }
 {
@@ -56,6 +58,7 @@ pub(crate) fn end_body<D: Desk>(desk: &mut D, state: &mut State, frames: &mut Ve
     ensures holding { Holding (D.fixed desk.old).caller (state.new.made + 1) (frames_of frames.new.items) (D.front desk.new) }
     ensures kept { IsPrefix (D.front desk.old) (D.front desk.new) }
     ensures grown { (t : Table) (names asked : List Name) → Grown t (D.fixed desk.old).caller names asked asked (D.front desk.old) (D.front desk.new) }
+    ensures own { StaysOwn (D.fixed desk.old).caller (D.front desk.old) (D.front desk.new) state.old.cache state.new.cache }
     ensures legal { IsLegal (D.fixed desk.old).limit (D.front desk.old) → IsLegal (D.fixed desk.old).limit (D.front desk.new) }
     ensures fixed { D.fixed desk.new ≡ D.fixed desk.old }
 {
@@ -87,6 +90,7 @@ pub(crate) fn pass<D: Desk>(desk: &mut D, cont: Cont, state: &mut State, frames:
     ensures holding { Holding (D.fixed desk.old).caller (state.new.made + 1) (frames_of frames.new.items) (D.front desk.new) }
     ensures kept { IsPrefix (D.front desk.old) (D.front desk.new) }
     ensures grown { (t : Table) (names asked : List Name) → Grown t (D.fixed desk.old).caller names asked asked (D.front desk.old) (D.front desk.new) }
+    ensures own { StaysOwn (D.fixed desk.old).caller (D.front desk.old) (D.front desk.new) state.old.cache state.new.cache }
     ensures legal { IsLegal (D.fixed desk.old).limit (D.front desk.old) → IsLegal (D.fixed desk.old).limit (D.front desk.new) }
     ensures fixed { D.fixed desk.new ≡ D.fixed desk.old }
 {

@@ -7,8 +7,9 @@ ghost use Rattle.hb_names.specs.Names.{Differ};
 ghost use Rattle.hb_tables.specs.History.{IsLegal};
 ghost use Rattle.hb_call.specs.Held.{stands};
 ghost use Rattle.hb_call.specs.Growth.{Grown};
+ghost use Rattle.hb_eval.specs.Keeping.{KeepsOwn};
 ghost use Rattle.hb_eval.specs.Methods as methods;
-ghost use Rattle.hb_eval.specs.Steps.{Steady, IsPlain, AreKnown, Keeps, weigh_push};
+ghost use Rattle.hb_eval.specs.Steps.{IsPlain, Still, AreKnown, Keeps, weigh_push};
 ghost use Rattle.hb_eval.specs.Tables.{ActsOn};
 
 use crate::moves::{give, halt};
@@ -42,10 +43,11 @@ pub(crate) fn define<D: Desk, N: Names>(
     ensures known { (t : Table) → AreKnown t state.old → OnOk result (AreKnown t state.new) }
     ensures light { IfOk result (λ m. weigh_push m.under < 1) }
     ensures plain { IfOk result (λ m. IsPlain m.under × IsPlain m.push) }
-    ensures steady { Steady state.old state.new }
+    ensures still { Still state.old state.new }
     ensures kept { IsPrefix (D.front desk.old) (D.front desk.new) }
     ensures others { (q : ℕ) → stands (D.fixed desk.old).caller q (D.front desk.new) ≡ stands (D.fixed desk.old).caller q (D.front desk.old) }
     ensures grown { (t : Table) → OnOk result (Grown t (D.fixed desk.old).caller (N.known names.new) (N.asked names.old) (N.asked names.new) (D.front desk.old) (D.front desk.new)) }
+    ensures own { (t : Table) → OnOk result (KeepsOwn t (D.fixed desk.old).caller (N.known names.old) (N.known names.new) (N.asked names.old) (N.asked names.new) (D.front desk.old) (D.front desk.new) state.old.cache state.new.cache) }
     ensures legal { IsLegal (D.fixed desk.old).limit (D.front desk.old) → IsLegal (D.fixed desk.old).limit (D.front desk.new) }
     ensures fixed { D.fixed desk.new ≡ D.fixed desk.old }
     ensures named { IsPrefix (N.known names.old) (N.known names.new) }
@@ -55,7 +57,7 @@ pub(crate) fn define<D: Desk, N: Names>(
 {
     desk.reserve(alloc, 1)?;
     match names.key(alloc, class, name) {
-        Ok(key) => match tables::define(desk, key, site) {
+        Ok(key) => match tables::define(desk, &mut state.cache, key, site) {
             Ok(value) => Ok(give(state, value)),
             Err(stop) => Ok(halt(state, stop, id)),
         },
@@ -85,10 +87,11 @@ pub(crate) fn declare<D: Desk, N: Names>(
     ensures known { (t : Table) → AreKnown t state.old → OnOk result (AreKnown t state.new) }
     ensures light { IfOk result (λ m. weigh_push m.under < 1) }
     ensures plain { IfOk result (λ m. IsPlain m.under × IsPlain m.push) }
-    ensures steady { Steady state.old state.new }
+    ensures still { Still state.old state.new }
     ensures kept { IsPrefix (D.front desk.old) (D.front desk.new) }
     ensures others { (q : ℕ) → stands (D.fixed desk.old).caller q (D.front desk.new) ≡ stands (D.fixed desk.old).caller q (D.front desk.old) }
     ensures grown { (t : Table) → OnOk result (Grown t (D.fixed desk.old).caller (N.known names.new) (N.asked names.old) (N.asked names.new) (D.front desk.old) (D.front desk.new)) }
+    ensures own { (t : Table) → OnOk result (KeepsOwn t (D.fixed desk.old).caller (N.known names.old) (N.known names.new) (N.asked names.old) (N.asked names.new) (D.front desk.old) (D.front desk.new) state.old.cache state.new.cache) }
     ensures legal { IsLegal (D.fixed desk.old).limit (D.front desk.old) → IsLegal (D.fixed desk.old).limit (D.front desk.new) }
     ensures fixed { D.fixed desk.new ≡ D.fixed desk.old }
     ensures named { IsPrefix (N.known names.old) (N.known names.new) }
@@ -98,7 +101,7 @@ pub(crate) fn declare<D: Desk, N: Names>(
 {
     desk.reserve(alloc, 1)?;
     match names.key(alloc, class, name) {
-        Ok(key) => match tables::declare(desk, key, site, asks) {
+        Ok(key) => match tables::declare(desk, &mut state.cache, key, site, asks) {
             Ok(value) => Ok(give(state, value)),
             Err(stop) => Ok(halt(state, stop, id)),
         },

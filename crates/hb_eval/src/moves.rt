@@ -32,20 +32,28 @@ pub(crate) fn in_hand() -> Move
 }
 
 // The script stops.
-#[cold]
-#[inline(never)]
+#[inline(always)]
 pub(crate) fn halt(state: &mut State, stop: Stop, id: NodeId) -> Move
     ensures value { result ≡ record { under = None; push = None; gives = false; stops = true } }
     ensures state { state.new ≡ record state.old { stop = stop; at = id } }
 {
-    state.stop = stop;
-    state.at = id;
+    set_stop(state, stop, id);
     Move {
         under: None,
         push: None,
         gives: false,
         stops: true,
     }
+}
+
+// Why and where the script stops. It hands nothing back, so that a step has nothing of it in memory.
+#[cold]
+#[inline(never)]
+fn set_stop(state: &mut State, stop: Stop, id: NodeId)
+    ensures { state.new ≡ record state.old { stop = stop; at = id } }
+{
+    state.stop = stop;
+    state.at = id;
 }
 
 // What begins next, and what to do with its value.

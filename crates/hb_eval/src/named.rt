@@ -9,9 +9,10 @@ ghost use Rattle.hb_call.specs.Held.{stands};
 ghost use Rattle.hb_call.specs.Growth.{Grown};
 ghost use Rattle.hb_eval.specs.declared.cont.Cont.TheVariants as cont;
 ghost use Rattle.hb_eval.specs.State as meaning;
+ghost use Rattle.hb_eval.specs.Keeping.{KeepsOwn};
 ghost use Rattle.hb_eval.specs.Methods as methods;
 ghost use Rattle.hb_eval.specs.Machine.{method_named};
-ghost use Rattle.hb_eval.specs.Steps.{AreKnown, HasNoFrame, IsFed, IsFine, IsPlain, Keeps, SameCalls, Steady, weigh_push};
+ghost use Rattle.hb_eval.specs.Steps.{AreKnown, HasNoFrame, IsFed, IsFine, IsPlain, Keeps, SameCalls, Still, weigh_push};
 ghost use Rattle.hb_eval.specs.Tables.{ActsOn};
 ghost use Rattle.hb_eval.specs.Staying.{Stays};
 ghost use Rattle.hb_eval.specs.Naming.{IsNamed, StopsNamed};
@@ -80,6 +81,7 @@ pub(crate) fn begin_define<D: Desk, N: Names>(
     ensures stays { Stays (D.fixed desk.old) (D.fixed desk.new) (D.front desk.old) (D.front desk.new) (N.known names.old) (N.known names.new) }
     ensures others { (q : ℕ) → stands (D.fixed desk.old).caller q (D.front desk.new) ≡ stands (D.fixed desk.old).caller q (D.front desk.old) }
     ensures grown { (t : Table) → OnOk result (Grown t (D.fixed desk.old).caller (N.known names.new) (N.asked names.old) (N.asked names.new) (D.front desk.old) (D.front desk.new)) }
+    ensures own { (t : Table) → OnOk result (KeepsOwn t (D.fixed desk.old).caller (N.known names.old) (N.known names.new) (N.asked names.old) (N.asked names.new) (D.front desk.old) (D.front desk.new) state.old.cache state.new.cache) }
     ensures alike { N.alike names.old names.new }
 {
     let id = state.at;
@@ -118,6 +120,7 @@ pub(crate) fn begin_declare<D: Desk, N: Names>(
     ensures stays { Stays (D.fixed desk.old) (D.fixed desk.new) (D.front desk.old) (D.front desk.new) (N.known names.old) (N.known names.new) }
     ensures others { (q : ℕ) → stands (D.fixed desk.old).caller q (D.front desk.new) ≡ stands (D.fixed desk.old).caller q (D.front desk.old) }
     ensures grown { (t : Table) → OnOk result (Grown t (D.fixed desk.old).caller (N.known names.new) (N.asked names.old) (N.asked names.new) (D.front desk.old) (D.front desk.new)) }
+    ensures own { (t : Table) → OnOk result (KeepsOwn t (D.fixed desk.old).caller (N.known names.old) (N.known names.new) (N.asked names.old) (N.asked names.new) (D.front desk.old) (D.front desk.new) state.old.cache state.new.cache) }
     ensures alike { N.alike names.old names.new }
 {
     let id = state.at;
@@ -173,10 +176,11 @@ pub(crate) fn method<D: Desk, N: Names>(
     ensures known { (t : Table) → AreKnown t state.old → OnOk result (AreKnown t state.new) }
     ensures plain { IfOk result (λ m. IsPlain m.under × IsPlain m.push) }
     ensures light { IfOk result (λ m. weigh_push m.under < 1) }
-    ensures steady { Steady state.old state.new }
+    ensures still { Still state.old state.new }
     ensures stays { Stays (D.fixed desk.old) (D.fixed desk.new) (D.front desk.old) (D.front desk.new) (N.known names.old) (N.known names.new) }
     ensures others { (q : ℕ) → stands (D.fixed desk.old).caller q (D.front desk.new) ≡ stands (D.fixed desk.old).caller q (D.front desk.old) }
     ensures grown { (t : Table) → OnOk result (Grown t (D.fixed desk.old).caller (N.known names.new) (N.asked names.old) (N.asked names.new) (D.front desk.old) (D.front desk.new)) }
+    ensures own { (t : Table) → OnOk result (KeepsOwn t (D.fixed desk.old).caller (N.known names.old) (N.known names.new) (N.asked names.old) (N.asked names.new) (D.front desk.old) (D.front desk.new) state.old.cache state.new.cache) }
     ensures alike { N.alike names.old names.new }
 {
     let value = mem::replace(&mut state.acc, Value::Nil);

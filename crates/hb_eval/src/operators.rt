@@ -13,6 +13,7 @@ use hb_tree::node::Op;
 use std::alloc::Global;
 
 /// An operator on two numbers. It takes no memory.
+#[inline(always)]
 pub fn on_ints(op: Op, x: i64, y: i64) -> Result<Value, Stop>
     ensures { result ≡ operators.operate op (Int x) (Int y) }
 {
@@ -37,6 +38,36 @@ pub fn operate(alloc: Global, op: Op, left: &Value, right: &Value) -> Result<Val
         },
         (Value::Str(x), Value::Str(y)) => on_texts(alloc, op, x, y),
         _ => on_others(op, left, right),
+    }
+}
+
+// The same out of line, for operands that are not both numbers.
+#[inline(never)]
+fn operate_apart(alloc: Global, op: Op, left: Value, right: &Value) -> Result<Value, Fail>
+    ensures { ComesTo result (operators.operate op left right.now) }
+{
+    operate(alloc, op, &left, right)
+}
+
+/// An operator on two values, of which the left one is used up. Two numbers, which are most frequent, stay out of memory.
+#[inline(always)]
+pub(crate) fn operate_taken(
+    alloc: Global,
+    op: Op,
+    left: Value,
+    right: &Value,
+) -> Result<Value, Fail>
+    ensures { ComesTo result (operators.operate op left right.now) }
+{
+    match (&left, right) {
+        (Value::Int(x), Value::Int(y)) => match on_ints(op, *x, *y) {
+            Ok(value) => Ok(value),
+            Err(stop) => Err(Fail::Stopped(stop)),
+        },
+        _ => match operate_apart(alloc, op, left, right) {
+            Ok(value) => Ok(value),
+            Err(fail) => Err(fail),
+        },
     }
 }
 

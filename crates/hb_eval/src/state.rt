@@ -3,6 +3,7 @@
 use crate::cont::Cont;
 use crate::stop::Stop;
 use crate::value::Value;
+use hb_cache::Cache;
 use hb_types::ids::{ClassId, NameId, NodeId};
 
 /// What a script has in hand beside its frames and what is left to do.
@@ -30,8 +31,12 @@ pub struct State {
     pub made: u32,
     /// How many of them were decided.
     pub decided: u32,
-    /// How many of them entered, each on a fresh check.
-    pub entered: u32,
+    /// How many of them entered on a check that the script itself had kept.
+    pub own: u32,
+    /// How many of them entered on a fresh check.
+    pub fresh: u32,
+    /// The checks that the script keeps.
+    pub cache: Cache,
 }
 
 /// What a step leaves to do: behind, and first once a value is there. Then whether a value is in hand, or a stop; else an expression begins.

@@ -1,6 +1,7 @@
 //! What the machine does with the value in hand, where no table is asked.
 
 ghost use Rattle.std.specs.Prelude.{◌≡◌, ◌+◌, ◌-◌, ◌<◌, ◌≤◌, ◌^◌, length, take, drop, ℕ, IfOk, OnOk, Some, None, true, false};
+ghost use Rattle.hb_tree.specs.Table.{Table};
 ghost use Rattle.hb_tree.specs.TreeAt.{IsExprAt, IsBlockAt, tree_at};
 ghost use Rattle.hb_eval.specs.declared.cont.Cont.TheVariants as cont;
 ghost use Rattle.hb_eval.specs.Values.{IsKnown};
@@ -9,7 +10,7 @@ ghost use Rattle.hb_eval.specs.Steps.{Steady, IsPlain, AreKnown, InEach, Moves, 
 
 use crate::cont::Cont;
 use crate::moves::{first, give, halt, in_hand, next, under};
-use crate::operators::operate;
+use crate::operators::operate_taken;
 use crate::printed::{print, shown};
 use crate::state::{Move, State};
 use crate::stop::Fail;
@@ -21,7 +22,20 @@ use hb_types::ids::{NameId, NodeId};
 use std::alloc::{AllocError, Global};
 use std::mem;
 
+// The value that was in hand. A number stays there too, so that nothing is moved.
+#[inline(always)]
+fn taken(acc: &mut Value) -> Value
+    ensures value { result ≡ acc.old }
+    ensures known { (t : Table) → IsKnown t acc.old → IsKnown t acc.new }
+{
+    match acc {
+        Value::Int(number) => Value::Int(*number),
+        _ => mem::replace(acc, Value::Nil),
+    }
+}
+
 /// The left operand waits while the right one begins.
+#[inline(always)]
 #[tactic(auto, using(crate::proofs::KnownLemmas::pushed_known), unfolding(crate::specs::State::then_do))]
 pub(crate) fn left(
     prog: &Program,
@@ -37,12 +51,13 @@ pub(crate) fn left(
     ensures known { AreKnown prog.now state.old → OnOk result (AreKnown prog.now state.new) }
     ensures light { IfOk result (λ m. weigh_push m.under < 1) }
 {
-    let value = mem::replace(&mut state.acc, Value::Nil);
+    let value = taken(&mut state.acc);
     state.operands.push(value)?;
     Ok(first(state, Cont::Right(id, op), right))
 }
 
 /// Both operands are there.
+#[inline(always)]
 #[tactic(auto, unfolding(crate::specs::State::then_do))]
 pub(crate) fn right(
     alloc: Global,
@@ -60,7 +75,7 @@ pub(crate) fn right(
 {
     match state.operands.pop() {
         None => unreachable!(),
-        Some(value) => match operate(alloc, op, &value, &state.acc) {
+        Some(value) => match operate_taken(alloc, op, value, &state.acc) {
             Ok(value) => Ok(give(state, value)),
             Err(Fail::Stopped(stop)) => Ok(halt(state, stop, id)),
             Err(Fail::NoMemory) => Err(AllocError),
@@ -69,6 +84,7 @@ pub(crate) fn right(
 }
 
 /// A variable gets the value in hand, which stays there.
+#[inline(always)]
 #[tactic(auto, using(crate::proofs::KnownLemmas::bound_known), unfolding(crate::specs::State::then_do))]
 pub(crate) fn assign(prog: &Program, name: NameId, state: &mut State) -> Result<Move, AllocError>
     requires base { state.old.base ≤ length state.old.vars.items }
@@ -84,6 +100,7 @@ pub(crate) fn assign(prog: &Program, name: NameId, state: &mut State) -> Result<
 }
 
 /// The truth of the value in hand is turned round.
+#[inline(always)]
 #[tactic(auto, unfolding(crate::specs::State::then_do))]
 pub(crate) fn not(prog: &Program, state: &mut State) -> Move
     ensures moves { InEach prog.now (Moves (Some cont.Not) true state.old state.new result) }

@@ -21,6 +21,7 @@ pub(crate) fn value_of(vars: &[(NameId, Value)], name: NameId) -> Result<Option<
 }
 
 /// Gives a variable of the frame a value. The frame's variables are those from a place on.
+#[inline(always)]
 #[tactic(auto, using(crate::proofs::VariableLemmas::new_name))]
 pub(crate) fn assign(
     vars: &mut Vec<(NameId, Value)>,

@@ -1,12 +1,9 @@
 -- The history of a program of one script, or of none.
-use Rattle.std.proofs.Common.{◌≡◌, ◌⊎◌, inl, inr, ℕ, zero, suc, ◌+◌, ◌<◌, ◌≤◌, List, [], ◌∷◌, ◌++◌, length, map, Option, Some, None, true, false, Bool, refl, sym, ap, ◌∙◌, subst, arith, append_assoc, rules}
-use Rattle.std.specs.Prelude.{Contains, slice_get, slice_index_or, is_some, IsSome, cond, option_map, ◌==◌, ◌↔◌, if◌then◌else◌}
+use Rattle.std.proofs.Common.{◌≡◌, ◌⊎◌, inl, inr, ℕ, zero, suc, ◌<◌, ◌≤◌, List, [], ◌∷◌, ◌++◌, length, map, Option, Some, None, true, false, Bool, refl, sym, ap, ◌∙◌, subst, arith, append_assoc, rules}
+use Rattle.std.specs.Prelude.{Contains, slice_get, slice_index_or, is_some, IsSome, cond, option_map, ◌==◌, if◌then◌else◌}
 use Rattle.std.proofs.lemmas.List.{append-nil}
 use Rattle.std.proofs.lemmas.List.Elements.{Contains-append_cases}
 use Rattle.std.specs.List.{AllByRecursion}
-use mathlib.Core.List.{IsPrefix}
-use Rattle.hb_types.specs.declared.ids.CallNo.{CallNo}
-use Rattle.hb_types.specs.declared.ids.KeyId.{KeyId}
 use Rattle.hb_types.specs.declared.ids.NodeId.{NodeId}
 use Rattle.hb_types.specs.declared.ids.NameId.{NameId}
 use Rattle.hb_tree.specs.Table.{Table}
@@ -16,7 +13,7 @@ use Rattle.hb_tables.specs.declared.entry.Act.{Act}
 use Rattle.hb_tables.specs.declared.entry.Act.TheVariants.{Hold, Free, Retype, Busy, WornType, Define, WornDef, Call}
 use Rattle.hb_tables.specs.declared.entry.Entry.{Entry}
 use Rattle.hb_tables.specs.Frames.{acts}
-use Rattle.hb_tables.specs.History.{key_of, spot, times, entry, Every, FitsAct, IsLegal}
+use Rattle.hb_tables.specs.History.{key_of, spot, entry, Every, FitsAct, IsLegal}
 use Rattle.hb_tables.proofs.HoldingLemmas.{holds_since}
 use Rattle.hb_tables.specs.Plain.{AreOwn}
 use Rattle.hb_call.specs.Growth.{Grown, asked_after, asked_by, with_found, with_key}
@@ -27,7 +24,7 @@ use Rattle.hb_eval.specs.Told.{Told, told}
 use Rattle.hb_eval.specs.declared.machine.Machine.{Machine}
 use Rattle.hb_eval.specs.Machines.{StandsFor}
 use Rattle.hb_run.specs.Going.{RanAlone}
-use Rattle.hb_run.specs.History.{AreAllRuns, AreRuns, HasCaller, IsHistory, IsRunOf, IsUsed, block_of, callers_from}
+use Rattle.hb_run.specs.History.{AreAllRuns, AreRuns, IsHistory, IsUsed, block_of, callers_from}
 
 none_there : {X : Type 0} (before after : List X) (e : X) → [] ≡ before ++ e ∷ after → ⊥
 none_there [] after e is = cc is

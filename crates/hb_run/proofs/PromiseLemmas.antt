@@ -1,5 +1,5 @@
 -- Why each history keeps the promise.
-use Rattle.std.proofs.Common.{◌≡◌, ℕ, zero, suc, List, [], ◌∷◌, Option, Some, None, Bool, true, false, refl, sym, ap, ◌∙◌, subst}
+use Rattle.std.proofs.Common.{◌≡◌, ℕ, List, [], ◌∷◌, Option, Some, None, Bool, true, false, refl, sym, ap, ◌∙◌, subst}
 use Rattle.std.specs.Prelude.{◌↔◌}
 use Rattle.std.specs.List.{AllByRecursion}
 use Rattle.hb_types.specs.declared.types.Ty.{Ty}
@@ -13,16 +13,15 @@ use Rattle.hb_deriv.specs.Judgement.{IsJudged}
 use Rattle.hb_names.specs.Names.{Name}
 use Rattle.hb_tables.specs.declared.entry.Act.{Act}
 use Rattle.hb_tables.specs.declared.entry.Act.TheVariants.{Hold, Free, Retype, Busy, WornType, Define, WornDef, Call}
-use Rattle.hb_tables.specs.declared.entry.By.{By}
 use Rattle.hb_tables.specs.declared.entry.By.TheVariants as by
 use Rattle.hb_tables.specs.declared.entry.Entry.{Entry}
 use Rattle.hb_tables.specs.declared.entry.Verdict.{Verdict}
 use Rattle.hb_tables.specs.declared.entry.Verdict.TheVariants as verdict
-use Rattle.hb_tables.specs.Rows.{FitsCall, HasCallRows, body_at, kinds_of, type_of_key, types_in}
+use Rattle.hb_tables.specs.Rows.{FitsCall, body_at, kinds_of, type_of_key, types_in}
 use Rattle.hb_tables.specs.Verdicts.{Reaches, as_fresh, verdict_of}
 use Rattle.hb_eval.specs.Told.{Told, is_done}
 use Rattle.hb_sound.specs.Scripts.{EndsWell}
-use Rattle.hb_run.specs.History.{AreAllRuns, AreRuns, IsHistory, IsRunOf, RunBehind, block_of, callers_from}
+use Rattle.hb_run.specs.History.{AreAllRuns, AreRuns, IsRunOf, RunBehind, block_of, callers_from}
 use Rattle.hb_run.specs.Headline.{DoesEnter, EntersRightly, StopsRightly}
 
 -- a verdict enters exactly where a fresh one does

@@ -7,12 +7,14 @@ ghost use Rattle.hb_names.specs.Names.{Name};
 ghost use Rattle.hb_tables.specs.declared.entry.Entry.{Entry};
 ghost use Rattle.hb_tables.specs.History.{IsLegal};
 ghost use Rattle.hb_tables.specs.Plain.{AreOwn};
+ghost use Rattle.hb_call.specs.OwnCache.{IsOwnCache};
 ghost use Rattle.hb_eval.specs.Holding.{Holding, frames_of};
 ghost use Rattle.hb_eval.specs.Machines.{HasEnded, IsFineMachine, IsGoing};
 ghost use Rattle.hb_eval.specs.Told.{told_by};
 ghost use Rattle.hb_run.specs.Going.{RanAlone, Went};
 ghost use Rattle.hb_run.specs.History.{IsHistory, block_of};
 
+use hb_call::Share;
 use hb_eval::machine::{Machine, Turn};
 use hb_eval::script_run::ScriptRun;
 use hb_names::{Names, PlainNames};
@@ -84,6 +86,7 @@ fn run_on(
     requires fresh { (machine.old.frames.items ≡ []) × (machine.old.state.made ≡ 0) }
     requires log { tables.old.log ≡ [] }
     requires names { names.old ≡ [] }
+    requires cache { IsOwnCache prog.now [] [] 1 [] machine.old.state.cache }
     ensures fine { OnOk result (IsFineMachine prog.now machine.new) }
     ensures ended { OnOk result (HasEnded machine.new) }
     ensures ran { OnOk result (RanAlone prog.now names.new tables.new.log machine.old machine.new) }
@@ -110,12 +113,15 @@ fn run_to_end<D: Desk, N: Names>(
     requires going { IsGoing machine.old }
     requires holding { Holding (D.fixed desk.old).caller (machine.old.state.made + 1) (frames_of machine.old.frames.items) (D.front desk.old) }
     requires few { length (N.known names.old) ≤ NAMES_MAX }
+    requires cache { IsOwnCache prog.now (N.known names.old) (N.asked names.old) (D.fixed desk.old).caller (D.front desk.old) machine.old.state.cache }
     ensures fine { OnOk result (IsFineMachine prog.now machine.new) }
     ensures ended { OnOk result (HasEnded machine.new) }
     ensures went { OnOk result (Went prog.now (D.fixed desk.old) (D.fixed desk.new) (N.known names.old) (N.known names.new) (N.asked names.old) (N.asked names.new) (D.front desk.old) (D.front desk.new) machine.old machine.new) }
 {
+    // No other script is there that could use its checks.
+    let mut share = Share::Off;
     loop {
-        match machine.advance(alloc, prog, desk, names)? {
+        match machine.advance(alloc, prog, desk, names, &mut share)? {
             Turn::More => {}
             Turn::Ended => return Ok(()),
         }

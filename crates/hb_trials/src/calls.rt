@@ -1,76 +1,54 @@
 //! Calls of whole programs, decided by hand.
 
-ghost use Rattle.std.specs.Prelude.{◌≡◌, ◌<◌, length, IfSome};
+ghost use Rattle.std.specs.Prelude.{◌<◌, length};
 ghost use Rattle.hb_call.specs.Calling.{IsArgKinds};
 ghost use Rattle.hb_call.specs.Held.{Holds};
 
-use crate::declarations::{Declared, method_of};
-use crate::desks::{call, give_def, give_type, key_of};
+use crate::declarations::Declared;
+use crate::desks::{call, give_type, verdict};
+use crate::hands::{BOTH, CALLER, Change, NO_ARGUMENT, make_changes, method, one};
 use crate::texts::{TWO, UNLIKE, read};
-use hb_call::{Entered, Frame, leave};
+use hb_cache::Cache;
+use hb_call::{CallFail, Entered, Frame, Share, leave};
 use hb_deriv::ill::Reason;
-use hb_names::{NAMES_MAX, PlainNames};
+use hb_names::{Names, PlainNames};
 use hb_tables::desk::{Desk, TypeAnswer};
-use hb_tables::entry::{ArgKinds, BODIES_MAX, By, VERSIONS_MAX, Verdict};
+use hb_tables::entry::{ArgKinds, By, VERSIONS_MAX, Verdict};
 use hb_tables::plain::PlainTables;
 use hb_tree::limits::TYPES_MAX;
 use hb_tree::program::Program;
-use hb_types::ids::{BodySite, CallerId, KeyId, TypeSite};
+use hb_types::ids::TypeSite;
 use hb_types::types::Ty;
-use std::alloc::{AllocError, Global};
+use std::alloc::Global;
 use std::process::Abort;
 use std::test::Fail;
 
-/// A caller with no call yet.
-const CALLER: CallerId = CallerId(1);
-
-const NO_ARGUMENT: ArgKinds = ArgKinds {
-    count: 0,
-    kinds: [Ty::Nil; 4],
-};
-
-// One argument of this kind.
-fn one(kind: Ty) -> ArgKinds
-    ensures { IsArgKinds result }
-{
-    ArgKinds {
-        count: 1,
-        kinds: [kind, Ty::Nil, Ty::Nil, Ty::Nil],
-    }
-}
-
-// The method of a program's declaration.
-fn method(rt: &impl Abort, prog: &Program, site: u16) -> Declared
-    ensures { result.name.0 < length prog.now.names }
-{
-    assert!(rt; (site as usize) < prog.types());
-    method_of(prog, TypeSite(site)).expect(rt, "a plain name")
-}
-
-// What becomes of the call of a method, where it has this type and this definition, and nothing else is given.
+// What becomes of the call of a program's first method behind these changes.
 fn called(
+    rt: &impl Abort,
     alloc: Global,
     prog: &Program,
-    method: Declared,
-    ty: Option<TypeSite>,
-    body: Option<BodySite>,
+    changes: &[Change],
     args: ArgKinds,
 ) -> Result<Verdict, Fail>
-    requires name { method.name.0 < length prog.now.names }
-    requires ty { IfSome ty (λ s. s.0 < TYPES_MAX) }
-    requires body { IfSome body (λ s. s.0 < BODIES_MAX) }
-    requires args { IsArgKinds args }
+    requires { IsArgKinds args }
 {
     let mut tables = PlainTables::new(alloc, VERSIONS_MAX)?;
     let mut desk = tables.desk(CALLER);
     let mut names = PlainNames::new(alloc);
-    let key = key_of(alloc, prog, method, &mut names)?;
-    give_type(alloc, &mut desk, key, ty)?;
-    give_def(alloc, &mut desk, key, body)?;
-    match call(alloc, prog, method, args, &mut desk, &mut names)? {
-        Entered::Frame(_, by) => Ok(Verdict::Enter(by)),
-        Entered::Refused(verdict) => Ok(verdict),
-    }
+    let mut cache = Cache::new(alloc);
+    make_changes(rt, alloc, prog, changes, &mut desk, &mut names, &mut cache)?;
+    let first = method(rt, prog, 0);
+    Ok(verdict(
+        alloc,
+        prog,
+        first,
+        args,
+        &mut desk,
+        &mut names,
+        &mut cache,
+        &mut Share::Off,
+    )?)
 }
 
 const GREETING: &[u8] = b"class A
@@ -80,23 +58,24 @@ def A.hi(x) \"hi \" ++ x end
 end
 ";
 
-/// Whether the method has its type and its definition, the kind of the argument, and what becomes of the call.
-const GREETINGS: [(bool, bool, Ty, Verdict); 4] = [
-    (true, true, Ty::Int, Verdict::BadArgs),
-    (false, true, Ty::Str, Verdict::NoType),
-    (true, false, Ty::Str, Verdict::NoBody),
-    (true, true, Ty::Str, Verdict::Enter(By::Fresh)),
+const TYPE: Change = Change::Type(0);
+
+const DEF: Change = Change::Def(0);
+
+/// What the method is given, the kind of the argument, and what becomes of the call.
+const GREETINGS: [(&[Change], Ty, Verdict); 4] = [
+    (&[TYPE, DEF], Ty::Int, Verdict::BadArgs),
+    (&[DEF], Ty::Str, Verdict::NoType),
+    (&[TYPE], Ty::Str, Verdict::NoBody),
+    (&[TYPE, DEF], Ty::Str, Verdict::Enter(By::Fresh)),
 ];
 
 #[test]
 fn a_call_wants_a_definition_a_type_and_arguments(rt: HostRuntime) -> Result<(), Fail> {
     let prog = read(&rt, rt.alloc(), GREETING);
-    let hi = method(&rt, &prog, 0);
-    for (typed, defined, kind, expected) in GREETINGS {
-        let ty = typed.then_some(TypeSite(0));
-        let body = defined.then_some(BodySite(0));
-        let verdict = called(rt.alloc(), &prog, hi, ty, body, one(kind))?;
-        assert_eq!(rt; verdict, expected, "{typed} {defined} {kind:?}");
+    for (changes, kind, expected) in GREETINGS {
+        let verdict = called(&rt, rt.alloc(), &prog, changes, one(kind))?;
+        assert_eq!(rt; verdict, expected, "{changes:?} {kind:?}");
     }
     Ok(())
 }
@@ -104,9 +83,7 @@ fn a_call_wants_a_definition_a_type_and_arguments(rt: HostRuntime) -> Result<(),
 #[test]
 fn a_body_with_a_fault_is_not_entered(rt: HostRuntime) -> Result<(), Fail> {
     let prog = read(&rt, rt.alloc(), UNLIKE);
-    let f = method(&rt, &prog, 0);
-    let (ty, body) = (Some(TypeSite(0)), Some(BodySite(0)));
-    let Verdict::IllTyped(ill) = called(rt.alloc(), &prog, f, ty, body, one(Ty::Bool))? else {
+    let Verdict::IllTyped(ill) = called(&rt, rt.alloc(), &prog, &[TYPE, DEF], one(Ty::Bool))? else {
         panic!(rt; "no fault");
     };
     assert!(rt; (ill.node.0 as usize) < prog.nodes());
@@ -117,21 +94,24 @@ fn a_body_with_a_fault_is_not_entered(rt: HostRuntime) -> Result<(), Fail> {
     Ok(())
 }
 
-// What becomes of a type that a key is given before a frame leaves, and behind that.
-fn given_twice<D: Desk>(
+// What becomes of a type that a method is given before a frame leaves, and behind that.
+fn given_twice<D: Desk, N: Names>(
     alloc: Global,
-    desk: &mut D,
+    prog: &Program,
     frame: Frame,
-    key: KeyId,
+    method: Declared,
     site: TypeSite,
-) -> Result<[Option<TypeAnswer>; 2], AllocError>
-    requires key { key.0 < NAMES_MAX }
+    desk: &mut D,
+    names: &mut N,
+    cache: &mut Cache,
+) -> Result<[TypeAnswer; 2], CallFail>
+    requires name { method.name.0 < length prog.now.names }
     requires site { site.0 < TYPES_MAX }
     requires live { Holds (D.fixed desk.old).caller frame.q.0 frame.held.items (D.front desk.old) }
 {
-    let before = give_type(alloc, desk, key, Some(site))?;
+    let before = give_type(alloc, prog, method, site, desk, names, cache)?;
     leave(frame, desk);
-    let behind = give_type(alloc, desk, key, Some(site))?;
+    let behind = give_type(alloc, prog, method, site, desk, names, cache)?;
     Ok([before, behind])
 }
 
@@ -144,18 +124,31 @@ fn a_type_that_a_frame_uses_stays_until_it_leaves(rt: HostRuntime) -> Result<(),
     let mut tables = PlainTables::new(alloc, VERSIONS_MAX)?;
     let mut desk = tables.desk(CALLER);
     let mut names = PlainNames::new(alloc);
-    let used = key_of(alloc, &prog, g, &mut names)?;
-    let key = key_of(alloc, &prog, f, &mut names)?;
-    give_type(alloc, &mut desk, used, Some(TypeSite(0)))?;
-    give_def(alloc, &mut desk, used, Some(BodySite(0)))?;
-    give_type(alloc, &mut desk, key, Some(TypeSite(1)))?;
-    give_def(alloc, &mut desk, key, Some(BodySite(1)))?;
-    let entered = call(alloc, &prog, f, NO_ARGUMENT, &mut desk, &mut names)?;
+    let mut cache = Cache::new(alloc);
+    make_changes(&rt, alloc, &prog, &BOTH, &mut desk, &mut names, &mut cache)?;
+    let entered = call(
+        alloc,
+        &prog,
+        f,
+        NO_ARGUMENT,
+        &mut desk,
+        &mut names,
+        &mut cache,
+        &mut Share::Off,
+    )?;
     let Entered::Frame(frame, _) = entered else {
         panic!(rt; "no frame");
     };
-    let given = given_twice(alloc, &mut desk, frame, used, TypeSite(2))?;
-    let expected = [Some(TypeAnswer::Busy { pins: 1 }), Some(TypeAnswer::Done)];
-    assert_eq!(rt; given, expected);
+    let given = given_twice(
+        alloc,
+        &prog,
+        frame,
+        g,
+        TypeSite(2),
+        &mut desk,
+        &mut names,
+        &mut cache,
+    )?;
+    assert_eq!(rt; given, [TypeAnswer::Busy { pins: 1 }, TypeAnswer::Done]);
     Ok(())
 }

@@ -1,73 +1,74 @@
-//! Steps by hand at a desk: a method's key, its type and its definition, and the first call.
+//! Steps by hand at a desk: a method gets a type or a definition, or is called.
 
-ghost use Rattle.std.specs.Prelude.{◌≡◌, ◌<◌, length, IfOk, IfSome};
+ghost use Rattle.std.specs.Prelude.{◌<◌, length, IfOk, OnOk};
 ghost use Rattle.hb_call.specs.Calling.{IsArgKinds};
 ghost use Rattle.hb_call.specs.Entering.{IsFramed};
-ghost use Rattle.hb_trials.specs.Desks.{HoldSame, IsIdle};
+ghost use Rattle.hb_call.specs.OwnCache.{IsOwnCache};
+ghost use Rattle.hb_trials.specs.Desks.{FreedIfRefused, HoldSame, IsAloneAt, IsReady, StaysReady};
 
 use crate::declarations::Declared;
-use hb_call::{CallFail, Entered, enter};
-use hb_names::{NAMES_MAX, NameFail, Names};
+use hb_cache::Cache;
+use hb_call::{CallFail, Entered, Share, enter, leave};
+use hb_names::Names;
 use hb_tables::desk::{DefAnswer, Desk, TypeAnswer};
-use hb_tables::entry::{ArgKinds, BODIES_MAX};
+use hb_tables::entry::{ArgKinds, BODIES_MAX, Verdict};
 use hb_tree::limits::TYPES_MAX;
 use hb_tree::program::Program;
-use hb_types::ids::{BodySite, CallNo, KeyId, TypeSite};
-use std::alloc::{AllocError, Global};
+use hb_types::ids::{BodySite, CallNo, TypeSite};
+use std::alloc::Global;
 
-/// The number of the first call.
-pub const FIRST: CallNo = CallNo(1);
+/// The number of each call. The frame of the one before has ended.
+pub const CALL: CallNo = CallNo(1);
 
-/// The key of a program's method.
-pub fn key_of<N: Names>(
+/// Gives a method a type. Where that is done, each check that used its type is dropped.
+pub fn give_type<D: Desk, N: Names>(
     alloc: Global,
     prog: &Program,
     method: Declared,
+    site: TypeSite,
+    desk: &mut D,
     names: &mut N,
-) -> Result<KeyId, NameFail>
-    requires { method.name.0 < length prog.now.names }
-    ensures { IfOk result (λ key. key.0 < NAMES_MAX) }
+    cache: &mut Cache,
+) -> Result<TypeAnswer, CallFail>
+    requires name { method.name.0 < length prog.now.names }
+    requires site { site.0 < TYPES_MAX }
+    ensures held { HoldSame (D.fixed desk.old) (D.fixed desk.new) (D.front desk.old) (D.front desk.new) }
+    ensures ready { OnOk result (StaysReady prog.now (N.known names.old) (N.known names.new) (N.asked names.old) (N.asked names.new) (D.fixed desk.old) (D.fixed desk.new) (D.front desk.old) (D.front desk.new) cache.old cache.new) }
 {
-    names.key(alloc, method.class, prog.name(method.name))
-}
-
-/// Gives a key a type, where there is one to give.
-pub fn give_type<D: Desk>(
-    alloc: Global,
-    desk: &mut D,
-    key: KeyId,
-    site: Option<TypeSite>,
-) -> Result<Option<TypeAnswer>, AllocError>
-    requires key { key.0 < NAMES_MAX }
-    requires site { IfSome site (λ s. s.0 < TYPES_MAX) }
-    ensures { HoldSame (D.fixed desk.old) (D.fixed desk.new) (D.front desk.old) (D.front desk.new) }
-{
-    let Some(site) = site else {
-        return Ok(None);
-    };
+    let key = names.key(alloc, method.class, prog.name(method.name))?;
     desk.reserve(alloc, 1)?;
-    Ok(Some(desk.set_type(key, site)))
+    let answer = desk.set_type(key, site);
+    if answer == TypeAnswer::Done {
+        cache.drop_type(key);
+    }
+    Ok(answer)
 }
 
-/// Gives a key a definition, where there is one to give.
-pub fn give_def<D: Desk>(
+/// Gives a method a definition. Where that is done, the check of the one before is dropped.
+pub fn give_def<D: Desk, N: Names>(
     alloc: Global,
+    prog: &Program,
+    method: Declared,
+    site: BodySite,
     desk: &mut D,
-    key: KeyId,
-    site: Option<BodySite>,
-) -> Result<Option<DefAnswer>, AllocError>
-    requires key { key.0 < NAMES_MAX }
-    requires site { IfSome site (λ s. s.0 < BODIES_MAX) }
-    ensures { HoldSame (D.fixed desk.old) (D.fixed desk.new) (D.front desk.old) (D.front desk.new) }
+    names: &mut N,
+    cache: &mut Cache,
+) -> Result<DefAnswer, CallFail>
+    requires name { method.name.0 < length prog.now.names }
+    requires site { site.0 < BODIES_MAX }
+    ensures held { HoldSame (D.fixed desk.old) (D.fixed desk.new) (D.front desk.old) (D.front desk.new) }
+    ensures ready { OnOk result (StaysReady prog.now (N.known names.old) (N.known names.new) (N.asked names.old) (N.asked names.new) (D.fixed desk.old) (D.fixed desk.new) (D.front desk.old) (D.front desk.new) cache.old cache.new) }
 {
-    let Some(site) = site else {
-        return Ok(None);
-    };
+    let key = names.key(alloc, method.class, prog.name(method.name))?;
     desk.reserve(alloc, 1)?;
-    Ok(Some(desk.set_def(key, site)))
+    let answer = desk.set_def(key, site);
+    if answer == DefAnswer::Done {
+        cache.drop_def(key);
+    }
+    Ok(answer)
 }
 
-/// Decides the first call at a desk. Where it enters, its frame holds its keys.
+/// Decides a call. Where it enters, its frame holds its keys.
 pub fn call<D: Desk, N: Names>(
     alloc: Global,
     prog: &Program,
@@ -75,20 +76,52 @@ pub fn call<D: Desk, N: Names>(
     args: ArgKinds,
     desk: &mut D,
     names: &mut N,
+    cache: &mut Cache,
+    share: &mut Share,
 ) -> Result<Entered, CallFail>
     requires name { method.name.0 < length prog.now.names }
     requires args { IsArgKinds args }
-    requires idle { IsIdle (D.fixed desk.old) (D.front desk.old) }
-    ensures { IfOk result (IsFramed (D.fixed desk.new).caller FIRST (D.front desk.new)) }
+    requires ready { IsReady prog.now (N.known names.old) (N.asked names.old) (D.fixed desk.old) (D.front desk.old) cache.old }
+    ensures framed { IfOk result (IsFramed (D.fixed desk.new).caller CALL (D.front desk.new)) }
+    ensures refused { IfOk result (FreedIfRefused (D.fixed desk.new) (D.front desk.new)) }
+    ensures alone { IsAloneAt CALL.0 (D.fixed desk.new) (D.front desk.new) }
+    ensures own { OnOk result (IsOwnCache prog.now (N.known names.new) (N.asked names.new) (D.fixed desk.new).caller (D.front desk.new) cache.new) }
 {
     enter(
         alloc,
         prog,
-        FIRST,
+        CALL,
         method.class,
         method.name,
         args,
         desk,
         names,
+        cache,
+        share,
     )
+}
+
+/// What becomes of a call. Where it enters, its frame ends at once.
+pub fn verdict<D: Desk, N: Names>(
+    alloc: Global,
+    prog: &Program,
+    method: Declared,
+    args: ArgKinds,
+    desk: &mut D,
+    names: &mut N,
+    cache: &mut Cache,
+    share: &mut Share,
+) -> Result<Verdict, CallFail>
+    requires name { method.name.0 < length prog.now.names }
+    requires args { IsArgKinds args }
+    requires ready { IsReady prog.now (N.known names.old) (N.asked names.old) (D.fixed desk.old) (D.front desk.old) cache.old }
+    ensures ready { OnOk result (IsReady prog.now (N.known names.new) (N.asked names.new) (D.fixed desk.new) (D.front desk.new) cache.new) }
+{
+    match call(alloc, prog, method, args, desk, names, cache, share)? {
+        Entered::Frame(frame, by) => {
+            leave(frame, desk);
+            Ok(Verdict::Enter(by))
+        }
+        Entered::Refused(verdict) => Ok(verdict),
+    }
 }

@@ -6,8 +6,14 @@
 mod calls;
 #[cfg(test)]
 mod checks;
+#[cfg(test)]
+mod counted;
 pub mod declarations;
 pub mod desks;
+#[cfg(test)]
+mod hands;
+#[cfg(test)]
+mod own;
 #[cfg(test)]
 mod runs;
 #[cfg(test)]

@@ -167,7 +167,7 @@ const GREETING: &str =
 const BUSY: &str =
     "class A\nscript main\ntype A.g : () -> Int\ndef A.g() 1 end\ntype A.f : () -> Int\ndef A.f() type A.g : () -> Str; self.g end\nprint A.new.f\nend\n";
 
-const ROWS: [Row; 26] = [
+const ROWS: [Row; 32] = [
     ("", STEPS, VERSIONS_MAX, ""),
     (
         GREETING,
@@ -194,6 +194,32 @@ const ROWS: [Row; 26] = [
         VERSIONS_MAX,
         "script main\n> 1\nstop IllTyped 9:13 Result 6:18\ncalls 3 own 0 shared 0 fresh 2\n",
     ),
+    // A check is taken again until a type that it used or the definition is given again.
+    (
+        "class A\nscript main\ntype A.hi : (Str) -> Str\ndef A.hi(x) \"hi \" ++ x end\nprint A.new.hi(\"bob\")\nprint A.new.hi(\"bob\")\nend\n",
+        STEPS,
+        VERSIONS_MAX,
+        "script main\n> hi bob\n> hi bob\ndone\ncalls 2 own 1 shared 0 fresh 1\n",
+    ),
+    (
+        "class A\nscript main\ntype A.hi : (Str) -> Str\ndef A.hi(x) \"hi \" ++ x end\nprint A.new.hi(\"bob\")\ntype A.hi : (Str) -> Str\nprint A.new.hi(\"bob\")\nend\n",
+        STEPS,
+        VERSIONS_MAX,
+        "script main\n> hi bob\n> hi bob\ndone\ncalls 2 own 0 shared 0 fresh 2\n",
+    ),
+    (
+        "class A\nscript main\ntype A.hi : (Str) -> Str\ndef A.hi(x) \"hi \" ++ x end\nprint A.new.hi(\"bob\")\ndef A.hi(x) \"ho \" ++ x end\nprint A.new.hi(\"bob\")\nend\n",
+        STEPS,
+        VERSIONS_MAX,
+        "script main\n> hi bob\n> ho bob\ndone\ncalls 2 own 0 shared 0 fresh 2\n",
+    ),
+    // A new definition of a method that a body calls leaves the check of the body.
+    (
+        "class A\nscript main\ntype A.g : () -> Int\ndef A.g() 1 end\ntype A.f : () -> Int\ndef A.f() self.g end\nprint A.new.f\ndef A.g() 2 end\nprint A.new.f\nend\n",
+        STEPS,
+        VERSIONS_MAX,
+        "script main\n> 1\n> 2\ndone\ncalls 4 own 1 shared 0 fresh 3\n",
+    ),
     // A type that a live frame uses stays.
     (
         BUSY,
@@ -212,6 +238,13 @@ const ROWS: [Row; 26] = [
         STEPS,
         VERSIONS_MAX,
         "script main\n> false\n> 1\ndone\ncalls 2 own 0 shared 0 fresh 2\n",
+    ),
+    // A type that was refused leaves the checks that used it.
+    (
+        "class A\nscript main\ntype A.g : () -> Int\ndef A.g() 1 end\ntype A.f : () -> Int\ndef A.f() print type? A.g : () -> Str; self.g end\nprint A.new.f\nprint A.new.f\nend\n",
+        STEPS,
+        VERSIONS_MAX,
+        "script main\n> false\n> 1\n> false\n> 1\ndone\ncalls 4 own 2 shared 0 fresh 2\n",
     ),
     // Nil conforms to each type.
     (
@@ -313,11 +346,18 @@ const ROWS: [Row; 26] = [
         VERSIONS_MAX,
         "script main\nstop Overflow 4:31\ncalls 1 own 0 shared 0 fresh 1\n",
     ),
+    // Each frame of a method that calls itself takes the check of the first, and there are at most 4,096.
+    (
+        "class A\nscript main\ntype A.f : (Int) -> Int\ndef A.f(n) if n == 0 then 0 else self.f(n - 1) end end\nprint A.new.f(4095)\nend\n",
+        STEPS,
+        VERSIONS_MAX,
+        "script main\n> 0\ndone\ncalls 4096 own 4095 shared 0 fresh 1\n",
+    ),
     (
         "class A\nscript main\ntype A.f : (Int) -> Int\ndef A.f(n) if n == 0 then 0 else self.f(n - 1) end end\nprint A.new.f(4096)\nend\n",
         STEPS,
         VERSIONS_MAX,
-        "script main\nstop Deep 4:39\ncalls 4096 own 0 shared 0 fresh 4096\n",
+        "script main\nstop Deep 4:39\ncalls 4096 own 4095 shared 0 fresh 1\n",
     ),
     (
         "class A\nscript main\ntype A.f : (Bool) -> Int\ndef A.f(c) x = if c then 1 else \"a\" end; x + 1 end\nprint A.new.f(true)\nend\n",

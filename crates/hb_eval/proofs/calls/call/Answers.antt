@@ -7,6 +7,7 @@ use Rattle.hb_eval.specs.Stacks.{frames_at}
 use Rattle.hb_eval.proofs.StackLemmas.{frames_length}
 use Rattle.hb_eval.proofs.CallLemmas.{call_stops, call_deep}
 use Rattle.hb_eval.proofs.EntryLemmas.{call_halts}
+use Rattle.hb_eval.proofs.GatheringLemmas.{shares_itself}
 use Rattle.hb_eval.proofs.calls.call.Goals as goal
 
 pub returns-in-Err-clause-reads : goal.returns-in-Err-clause-reads
@@ -29,3 +30,9 @@ returns-in-Ok-clause-reads g c =
 
 pub returns-in-Ok-clause-grown : goal.returns-in-Ok-clause-grown
 returns-in-Ok-clause-grown g c = grown_itself _ _ _ _ _
+
+pub returns-in-Err-clause-shares : goal.returns-in-Err-clause-shares
+returns-in-Err-clause-shares g c = shares_itself _ _ _ _ _
+
+pub returns-in-Ok-clause-shares : goal.returns-in-Ok-clause-shares
+returns-in-Ok-clause-shares g c = shares_itself _ _ _ _ _

@@ -1,4 +1,4 @@
-use Rattle.std.proofs.Common.{◌≡◌, ◌-◌, ℕ, length, refl, sym, ap, ◌∙◌, subst, arith}
+use Rattle.std.proofs.Common.{◌≡◌, ◌-◌, ℕ, suc, length, refl, sym, ap, ◌∙◌, subst, arith}
 use Rattle.std.specs.List.{AllByRecursion}
 use Rattle.std.proofs.lemmas.Result.{IfOk-weaker}
 use Rattle.hb_tree.specs.Tree.{TCall}
@@ -7,10 +7,11 @@ use Rattle.hb_tree.specs.TreeAt.{tree_at, forest_at, IsExprAt}
 use Rattle.hb_call.specs.GrowthLaws.{grown_itself}
 use Rattle.hb_eval.specs.declared.state.Move.{Move}
 use Rattle.hb_eval.specs.Entries.{calling}
-use Rattle.hb_eval.specs.Turns.{Reads, with_operands, after}
+use Rattle.hb_eval.specs.Turns.{Goes, Reads, with_operands, after}
 use Rattle.hb_eval.proofs.ArgumentLemmas.{argument_starts, arguments_there, argument_count, argument_expr}
 use Rattle.hb_eval.proofs.GoesLemmas.{argument_goes}
 use Rattle.hb_eval.proofs.TurnLemmas.{reads_from}
+use Rattle.hb_eval.proofs.GatheringLemmas.{shares_itself}
 use Rattle.hb_eval.proofs.calls.next_argument.Goals as goal
 
 pub call-requires-clause-short : goal.call-requires-clause-short
@@ -53,3 +54,12 @@ returns-else-next-ids-clause-reads g c =
     IfOk-weaker c.call.result _ _ (λ (m : Move) r. reads_from _ _ _ _ old c.call.new.state _ _ _
     (arguments_there t c.args.id c.args.count at c.in-Call.field-0.0 c.in-Call.name.0 ids c.args.frames.now.items old tree c.if-next-ids.false (omega (arith, c.requires.there)))
     (subst (λ (n : ℕ). Reads (g.N.Names.known c.call.new.names) (g.D.Desk.fixed c.args.desk.now).caller (g.D.Desk.front c.args.desk.now) (g.D.Desk.front c.call.new.desk) old c.call.new.state (with_operands t n (λ w room vs s. calling w room c.args.id.0 c.in-Call.name.0 vs s) c.args.frames.now.items old) (after t m c.call.new.frames.items c.call.new.state)) same r)) c.call.ensures.reads
+
+pub returns-else-next-ids-clause-goes : goal.returns-else-next-ids-clause-goes
+returns-else-next-ids-clause-goes g c =
+    let old = c.args.state.now in
+    let size : length old.operands.items - (c.len.result - c.args.count - 1) ≡ suc c.args.count = omega (arith, c.len.ensures, old.operands.ok, c.requires.there) in
+    IfOk-weaker c.call.result _ _ (λ (m : Move) r. subst (λ (n : ℕ). Goes c.args.prog.now n 0 1 c.args.frames.now.items old c.call.new.frames.items c.call.new.state m) size r) c.call.ensures.goes
+
+pub returns-then-next-ids-clause-shares : goal.returns-then-next-ids-clause-shares
+returns-then-next-ids-clause-shares g c = shares_itself _ _ _ _ _

@@ -12,6 +12,9 @@ returns-clause-holding g c =
     let top = holding_top _ _ c.args.frames.now.items c.pop.new.self.items c.in-Some.field-0 _ c.in-Some.ensures.items c.requires.holding in
     holding_left _ _ (frames_of c.pop.new.self.items) c.in-Some.field-0.frame _ _ top c.leave.ensures.none c.leave.ensures.others c.leave.ensures.kept
 
+pub returns-clause-own : goal.returns-clause-own
+returns-clause-own g c t names asked own = c.leave.ensures.own t names asked c.args.state.now.cache own
+
 pub returns-clause-grown : goal.returns-clause-grown
 returns-clause-grown g c t names asked =
     let top = holding_top _ _ c.args.frames.now.items c.pop.new.self.items c.in-Some.field-0 _ c.in-Some.ensures.items c.requires.holding in

@@ -1,9 +1,12 @@
-use Rattle.std.proofs.Common.{ℕ, [], ◌∙◌, ap, subst}
+use Rattle.std.proofs.Common.{ℕ, [], refl, ◌∙◌, ap, subst}
 use Rattle.hb_types.specs.declared.ids.CallerId.{CallerId}
 use Rattle.hb_tables.specs.History.{IsLegal}
 use Rattle.hb_call.specs.GrowthLaws.{prefix_itself}
 use Rattle.hb_run.proofs.HistoryLemmas.{history-ran}
 use Rattle.hb_run.proofs.alone.run_script.Goals as goal
+
+pub run_on-requires-clause-cache : goal.run_on-requires-clause-cache
+run_on-requires-clause-cache c = c.in_ok-machine.ensures.own c.args.prog.now [] [] [] refl
 
 pub returns : goal.returns
 returns c =

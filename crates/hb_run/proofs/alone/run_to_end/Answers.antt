@@ -1,23 +1,25 @@
 use Rattle.std.proofs.Common.{◌+◌, sym, subst}
 use Rattle.hb_tables.specs.Answers.{Fixed}
+use Rattle.hb_call.specs.OwnCache.{IsOwnCache}
 use Rattle.hb_eval.specs.Holding.{Holding, frames_of}
 use Rattle.hb_eval.specs.Machines.{Turns}
 use Rattle.hb_eval.specs.declared.machine.Turn.{Turn}
 use Rattle.hb_run.proofs.GoingLemmas.{went_itself, went_turn}
 use Rattle.hb_run.proofs.alone.run_to_end.Goals as goal
 
-pub loop-init : goal.loop-init
-loop-init g c = (c.requires.fine, c.requires.going, c.requires.holding, c.requires.few, went_itself _ _ _ _ _ _)
+pub loop-share-init : goal.loop-share-init
+loop-share-init g c = (c.requires.fine, c.requires.going, c.requires.holding, c.requires.few, c.requires.cache, went_itself _ _ _ _ _ _)
 
-pub loop-preserved : goal.loop-preserved
-loop-preserved g c =
-    let inv = c.loop.invariant in
+pub loop-share-preserved : goal.loop-share-preserved
+loop-share-preserved g c =
+    let inv = c.loop-share.invariant in
     let came = c.in_ok-advance.ensures in
-    let turned = subst (λ (turn : Turn). Turns turn c.loop.machine c.advance.new.self) c.in-More.is came.turn in
+    let turned = subst (λ (turn : Turn). Turns turn c.loop-share.machine c.advance.new.self) c.in-More.is came.turn in
     let holding = subst (λ (door : Fixed). Holding door.caller (c.advance.new.self.state.made + 1) (frames_of c.advance.new.self.frames.items) (g.D.Desk.front c.advance.new.desk)) (sym c.advance.ensures.stays.fixed) came.holding in
-    (came.fine, turned.0, holding, c.advance.ensures.stays.few inv.3, went_turn _ _ _ _ _ _ _ _ _ _ _ _ _ _ _ _ _ inv.4 came.stands c.advance.ensures.stays came.grown c.advance.ensures.caller)
+    let own = subst (λ (door : Fixed). IsOwnCache c.args.prog.now (g.N.Names.known c.advance.new.names) (g.N.Names.asked c.advance.new.names) door.caller (g.D.Desk.front c.advance.new.desk) c.advance.new.self.state.cache) (sym c.advance.ensures.stays.fixed) came.own in
+    (came.fine, turned.0, holding, c.advance.ensures.stays.few inv.3, own, went_turn _ _ _ _ _ _ _ _ _ _ _ _ _ _ _ _ _ inv.5 came.stands c.advance.ensures.stays came.grown c.advance.ensures.caller)
 
 pub returns-in-Ended-clause-went : goal.returns-in-Ended-clause-went
 returns-in-Ended-clause-went g c =
     let came = c.in_ok-advance.ensures in
-    went_turn _ _ _ _ _ _ _ _ _ _ _ _ _ _ _ _ _ c.loop.invariant.4 came.stands c.advance.ensures.stays came.grown c.advance.ensures.caller
+    went_turn _ _ _ _ _ _ _ _ _ _ _ _ _ _ _ _ _ c.loop-share.invariant.5 came.stands c.advance.ensures.stays came.grown c.advance.ensures.caller

@@ -1,5 +1,4 @@
-use Rattle.std.proofs.Common.{◌≡◌, ℕ, List, refl, subst}
-use Rattle.hb_tables.specs.declared.entry.Entry.{Entry}
+use Rattle.std.proofs.Common.{subst}
 use Rattle.hb_tables.specs.History.{IsLegal}
 use Rattle.hb_run.specs.Headline.{StopsRightly}
 use Rattle.hb_run.proofs.PromiseLemmas.{each-run, enters-rightly, stops-rightly}

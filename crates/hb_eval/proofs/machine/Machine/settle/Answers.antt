@@ -1,16 +1,20 @@
 use Rattle.std.proofs.Common.{◌+◌, ◌∙◌, refl, subst, sym}
 use Rattle.hb_tables.specs.Answers.{Fixed}
+use Rattle.hb_call.specs.OwnCache.{IsOwnCache}
 use Rattle.hb_eval.specs.Holding.{Holding, frames_of}
 use Rattle.hb_eval.specs.Machines.{Carries}
 use Rattle.hb_eval.proofs.StayingLemmas.{stays_itself, stays_on}
 use Rattle.hb_eval.proofs.AdvanceLemmas.{carries_held, carries_on}
+use Rattle.hb_eval.specs.Gathering.{Shares}
+use Rattle.hb_eval.proofs.GatheringLemmas.{shares_itself, shares_on}
 use Rattle.hb_eval.proofs.machine.Machine.settle.Goals as goal
 
 pub steps-init : goal.steps-init
 steps-init g c = record {
-  carries = carries_held c.args.prog.now _ _ _ _ c.args.self.now c.args.self.now.conts refl c.requires.fine;
+  carries = carries_held c.args.prog.now _ _ _ _ c.args.self.now c.args.self.now.conts refl c.requires.fine c.requires.own;
   holding = c.requires.holding;
   stays = stays_itself _ _ _;
+  shares = shares_itself _ _ _ _ _;
   alike = g.N.Names.alike_itself c.args.names.now;
   caller = refl;
 }
@@ -18,6 +22,7 @@ steps-init g c = record {
 pub step-requires : goal.step-requires
 step-requires g c = record {
   fine = c.steps.invariant.carries.fine;
+  own = subst (λ (z : Fixed). IsOwnCache c.args.prog.now (g.N.Names.known c.steps.names) (g.N.Names.asked c.steps.names) z.caller (g.D.Desk.front c.steps.desk) c.steps.self.state.cache) (sym c.steps.invariant.stays.fixed) c.steps.invariant.carries.own;
   holding = subst (λ (z : Fixed). Holding z.caller (c.steps.self.state.made + 1) (frames_of c.steps.self.frames.items) (g.D.Desk.front c.steps.desk)) (sym c.steps.invariant.stays.fixed) c.steps.invariant.holding;
 }
 
@@ -32,6 +37,8 @@ steps-preserved g c =
           (subst (λ (z : Fixed). Carries c.args.prog.now z.caller (g.N.Names.known c.step.new.names) (g.N.Names.asked c.steps.names) (g.N.Names.asked c.step.new.names) (g.D.Desk.front c.steps.desk) (g.D.Desk.front c.step.new.desk) c.steps.self c.step.new.self) same s.carries);
       holding = subst (λ (z : Fixed). Holding z.caller (c.step.new.self.state.made + 1) (frames_of c.step.new.self.frames.items) (g.D.Desk.front c.step.new.desk)) same s.holding;
       stays = stays_on _ _ _ _ _ _ _ _ _ inv.stays s.stays;
+      shares = shares_on c.args.prog.now _ _ who _ _ _ _ _ _ s.stays.named inv.shares
+          (subst (λ (z : Fixed). Shares c.args.prog.now (g.N.Names.known c.step.new.names) z.caller (g.D.Desk.front c.steps.desk) (g.D.Desk.front c.step.new.desk) c.steps.share c.step.new.share) same s.shares);
       alike = g.N.Names.alike_on _ _ _ inv.alike s.alike;
       caller = s.caller ∙ inv.caller;
     }
@@ -48,3 +55,10 @@ returns-clause-carries g c =
 
 pub returns-clause-stays : goal.returns-clause-stays
 returns-clause-stays g c = stays_on _ _ _ _ _ _ _ _ _ c.steps.invariant.stays c.step.ensures.stays
+
+pub returns-clause-shares : goal.returns-clause-shares
+returns-clause-shares g c =
+    let inv = c.steps.invariant in
+    let s = c.in_ok-step.ensures in
+    shares_on c.args.prog.now _ _ (g.D.Desk.fixed c.args.desk.now).caller _ _ _ _ _ _ s.stays.named inv.shares
+    (subst (λ (z : Fixed). Shares c.args.prog.now (g.N.Names.known c.step.new.names) z.caller (g.D.Desk.front c.steps.desk) (g.D.Desk.front c.step.new.desk) c.steps.share c.step.new.share) inv.stays.fixed s.shares)

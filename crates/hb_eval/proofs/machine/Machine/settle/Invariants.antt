@@ -1,5 +1,6 @@
 use Rattle.std.proofs.Common.{◌≡◌, ◌+◌}
 use Rattle.hb_eval.specs.Holding.{Holding, frames_of}
+use Rattle.hb_eval.specs.Gathering.{Shares}
 use Rattle.hb_eval.specs.Staying.{Stays}
 use Rattle.hb_eval.specs.Machines.{Carries, turns_left}
 use Rattle.hb_eval.proofs.machine.Machine.settle.Given as goal
@@ -9,6 +10,7 @@ invariant-steps g l = record {
   carries : Carries l.prog (g.D.Desk.fixed l.fn.desk).caller (g.N.Names.known l.names) (g.N.Names.asked l.fn.names) (g.N.Names.asked l.names) (g.D.Desk.front l.fn.desk) (g.D.Desk.front l.desk) l.fn.self l.self;
   holding : Holding (g.D.Desk.fixed l.fn.desk).caller (l.self.state.made + 1) (frames_of l.self.frames.items) (g.D.Desk.front l.desk);
   stays : Stays (g.D.Desk.fixed l.fn.desk) (g.D.Desk.fixed l.desk) (g.D.Desk.front l.fn.desk) (g.D.Desk.front l.desk) (g.N.Names.known l.fn.names) (g.N.Names.known l.names);
+  shares : Shares l.prog (g.N.Names.known l.names) (g.D.Desk.fixed l.fn.desk).caller (g.D.Desk.front l.fn.desk) (g.D.Desk.front l.desk) l.fn.share l.share;
   alike : g.N.Names.alike l.fn.names l.names;
   caller : l.self.caller ≡ l.fn.self.caller;
 }

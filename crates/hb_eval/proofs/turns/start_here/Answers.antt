@@ -14,7 +14,8 @@ use Rattle.hb_eval.specs.Methods.{define, declare}
 use Rattle.hb_eval.specs.Calls.{call_in}
 use Rattle.hb_eval.proofs.GoesLemmas.{begun_goes, keeps_moves}
 use Rattle.hb_eval.proofs.ApplyLemmas.{begins_reads, plain_reads, plain_no_frame, if_all, if_both, on_ok}
-use Rattle.hb_eval.proofs.turns.start.Goals as goal
+use Rattle.hb_eval.proofs.KeepingLemmas.{keeps_same}
+use Rattle.hb_eval.proofs.turns.start_here.Goals as goal
 
 pub returns-in-Named-clause-reads : goal.returns-in-Named-clause-reads
 returns-in-Named-clause-reads g c frames =
@@ -74,3 +75,12 @@ returns-in_default-clause-goes g c frames =
 
 pub returns-in_default-clause-grown : goal.returns-in_default-clause-grown
 returns-in_default-clause-grown g c = on_ok c.begin-in_default.result _ (grown_itself _ _ _ _ _)
+
+pub returns-in-Computed-clause-own : goal.returns-in-Computed-clause-own
+returns-in-Computed-clause-own g c = on_ok c.begin.result _ (keeps_same c.args.prog.now _ _ _ _ _ _ c.begin.ensures.cache)
+
+pub returns-in-Computed-name-clause-own : goal.returns-in-Computed-name-clause-own
+returns-in-Computed-name-clause-own g c = on_ok c.begin-in-Computed-name.result _ (keeps_same c.args.prog.now _ _ _ _ _ _ c.begin-in-Computed-name.ensures.cache)
+
+pub returns-in_default-clause-own : goal.returns-in_default-clause-own
+returns-in_default-clause-own g c = on_ok c.begin-in_default.result _ (keeps_same c.args.prog.now _ _ _ _ _ _ c.begin-in_default.ensures.cache)

@@ -1,0 +1,83 @@
+-- A caller's own cache, and the names that were asked for, while a call is decided.
+use Rattle.std.proofs.Common.{◌≡◌, ℕ, ◌+◌, ◌≤◌, eqb, Bool, true, false, cond, List, [], ◌∷◌, ◌++◌, refl, sym, ap, ◌∙◌, arith, eq-eqb}
+use Rattle.std.specs.Prelude.{Option}
+use Rattle.hb_types.specs.declared.ids.CallNo.{CallNo}
+use Rattle.hb_types.specs.declared.ids.KeyId.{KeyId}
+use Rattle.hb_types.specs.declared.ids.TypeSite.{TypeSite}
+use Rattle.hb_cache.specs.declared.kept.Kept.{Kept}
+use Rattle.hb_names.specs.Names.{Name}
+use Rattle.hb_tables.specs.declared.entry.Act.{Act}
+use Rattle.hb_tables.specs.declared.entry.Act.TheVariants.{Hold, Free, Retype, Busy, WornType, Define, WornDef, Call}
+use Rattle.hb_tables.specs.Frames.{frees as frees_by, StaysLive}
+use Rattle.hb_tables.specs.Standing.{Stand, count_of, stand_done, standing_from}
+use Rattle.hb_tables.proofs.StandingLemmas.{count_last}
+use Rattle.hb_call.specs.Calling.{AreParts, Given, Goes, IsAskedFor, Moment}
+use Rattle.hb_call.specs.Growth.{asked_after}
+use Rattle.hb_call.specs.Held.{frees}
+use Rattle.hb_call.specs.Own.{LeavesKept}
+use Rattle.hb_call.specs.OwnCache.{IsOwnCache}
+use Rattle.hb_call.specs.OwnLaws.{asked_already, own_grows}
+
+-- holds and frees leave what is kept
+pub parts_leave : (q : CallNo) (l : List Act) → AreParts q l → LeavesKept l
+parts_leave q [] h = tt
+parts_leave q (Hold p key ty changes ∷ l) h = (refl, parts_leave q l h.1)
+parts_leave q (Free p key ∷ l) h = (refl, parts_leave q l h.1)
+parts_leave q (Retype key site ∷ l) h = absurd h.0
+parts_leave q (Busy key pins ∷ l) h = absurd h.0
+parts_leave q (WornType key ∷ l) h = absurd h.0
+parts_leave q (Define key site ∷ l) h = absurd h.0
+parts_leave q (WornDef key ∷ l) h = absurd h.0
+parts_leave q (Call p key site args v ∷ l) h = absurd h.0
+
+pub frees_leave : (q : CallNo) (keys : List KeyId) → LeavesKept (frees q keys)
+frees_leave q [] = tt
+frees_leave q (key ∷ keys) = (refl, frees_leave q keys)
+
+-- so a call that goes on leaves its caller's own cache
+pub goes_own : (g : Given) (was is : Moment) (cache : List (Option Kept)) → Goes g was is → IsOwnCache g.t was.known was.asked g.door.caller was.log cache → IsOwnCache g.t is.known is.asked g.door.caller is.log cache
+goes_own g was is cache goes own = own_grows g.t was.known is.known was.asked is.asked g.door.caller was.log is.log cache goes.grew goes.went.named (parts_leave g.q goes.grew.made goes.parts) own
+
+-- ── names that were asked for before ──
+
+stands_on : (q k : ℕ) (hs : List Stand) (a : Act) → frees_by q a ≡ false → 1 ≤ count_of k hs → 1 ≤ count_of k (stand_done q hs a)
+stands_on q k hs (Hold p key ty changes) live some = by (eqb q p.0)
+  where
+    by : (b : Bool) → 1 ≤ count_of k (cond b (hs ++ record { key = key.0; ty = ty; changes = changes } ∷ []) hs)
+    by true = let n = count_last k hs (record { key = key.0; ty = ty; changes = changes }) in omega (arith, n, some)
+    by false = some
+stands_on q k hs (Free p key) live some = rw live some
+stands_on q k hs (Retype key site) live some = some
+stands_on q k hs (Busy key pins) live some = some
+stands_on q k hs (WornType key) live some = some
+stands_on q k hs (Define key site) live some = some
+stands_on q k hs (WornDef key) live some = some
+stands_on q k hs (Call p key site args v) live some = some
+
+-- what stands does so while the call frees nothing
+stands_live : (q k : ℕ) (hs : List Stand) (l : List Act) → StaysLive q l → 1 ≤ count_of k hs → 1 ≤ count_of k (standing_from q hs l)
+stands_live q k hs [] live some = some
+stands_live q k hs (a ∷ l) live some = stands_live q k (stand_done q hs a) l live.1 (stands_on q k hs a live.0 some)
+
+stands_held : (q p : CallNo) (key : KeyId) (ty : Option TypeSite) (changes : ℕ) (hs : List Stand) → p ≡ q → 1 ≤ count_of key.0 (stand_done q.0 hs (Hold p key ty changes))
+stands_held q p key ty changes hs is =
+    let here : Stand = record { key = key.0; ty = ty; changes = changes } in
+    let n = count_last key.0 hs here in
+    let one : count_of key.0 (here ∷ []) ≡ 1 + count_of key.0 [] = ap (λ b. cond b 1 0 + count_of key.0 []) (eq-eqb key.0 key.0 refl) in
+    let same : eqb q.0 p.0 ≡ true = eq-eqb q.0 p.0 (ap (λ (x : CallNo). x.0) (sym is)) in
+    rw same (omega (arith, n, one))
+
+-- A call that frees nothing, and holds keys whose names were asked for, asks for nothing new.
+pub asked_live : (q : CallNo) (names asked : List Name) (hs : List Stand) (l : List Act) → AreParts q l → StaysLive q.0 l → ((k : ℕ) → 1 ≤ count_of k (standing_from q.0 hs l) → IsAskedFor names asked k) → asked_after names asked l ≡ asked
+asked_live q names asked hs [] parts live held = refl
+asked_live q names asked hs (Hold p key ty changes ∷ l) parts live held =
+    let hs2 = stand_done q.0 hs (Hold p key ty changes) in
+    ap (λ w. asked_after names w l) (asked_already names asked key.0 (held key.0 (stands_live q.0 key.0 hs2 l live.1 (stands_held q p key ty changes hs parts.0))))
+    ∙ asked_live q names asked hs2 l parts.1 live.1 held
+asked_live q names asked hs (Free p key ∷ l) parts live held = asked_live q names asked (stand_done q.0 hs (Free p key)) l parts.1 live.1 held
+asked_live q names asked hs (Retype key site ∷ l) parts live held = absurd parts.0
+asked_live q names asked hs (Busy key pins ∷ l) parts live held = absurd parts.0
+asked_live q names asked hs (WornType key ∷ l) parts live held = absurd parts.0
+asked_live q names asked hs (Define key site ∷ l) parts live held = absurd parts.0
+asked_live q names asked hs (WornDef key ∷ l) parts live held = absurd parts.0
+asked_live q names asked hs (Call p key site args v ∷ l) parts live held = absurd parts.0

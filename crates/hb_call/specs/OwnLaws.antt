@@ -1,0 +1,352 @@
+-- What a caller keeps of its checks as its acts go on, and when a call finds it.
+use Rattle.std.proofs.Common.{◌≡◌, ℕ, zero, suc, Bool, true, false, eqb, List, [], ◌∷◌, ◌++◌, Some, None, refl, sym, ap, ◌∙◌, subst, append_assoc, eq-eqb}
+use Rattle.std.proofs.lemmas.List.{append-nil}
+use Rattle.std.proofs.lemmas.Bool.{eqb-true}
+use Rattle.std.proofs.lemmas.Option.{none-some, same_Some}
+use Rattle.std.specs.Prelude.{Option, if◌then◌else◌, is_some, slice_get}
+use Rattle.std.specs.Option.{option_map}
+use Rattle.std.specs.List.{AllByRecursion}
+use mathlib.Core.List.{IsPrefix}
+use Rattle.hb_types.specs.declared.ids.BodySite.{BodySite}
+use Rattle.hb_types.specs.declared.ids.CallNo.{CallNo}
+use Rattle.hb_types.specs.declared.ids.KeyId.{KeyId}
+use Rattle.hb_types.specs.declared.ids.TypeSite.{TypeSite}
+use Rattle.hb_tree.specs.Table.{Table}
+use Rattle.hb_deriv.specs.declared.raw.Used.{Used}
+use Rattle.hb_deriv.specs.Derivation.{AgreesWith, key_of, type_at, type_of}
+use Rattle.hb_deriv.specs.Programs.{sites_of}
+use Rattle.hb_cache.specs.declared.kept.Kept.{Kept}
+use Rattle.hb_cache.specs.declared.kept.Seen.{Seen}
+use Rattle.hb_cache.specs.Cache.{Item, Items, SameItem, SaysSame, nothing, unless_used, with_item, without_item}
+use Rattle.hb_cache.specs.Kept.{count_in, count_of, item_of, items_in, kept_at, not_using, uses}
+use Rattle.hb_names.specs.Names.{Name}
+use Rattle.hb_names.proofs.NameLemmas.{place-longer, with_name-begins, with_name-known}
+use Rattle.hb_tables.specs.declared.entry.Entry.{Entry}
+use Rattle.hb_tables.specs.declared.entry.Act.{Act}
+use Rattle.hb_tables.specs.declared.entry.Act.TheVariants.{Hold, Free, Retype, Busy, WornType, Define, WornDef, Call}
+use Rattle.hb_tables.specs.declared.entry.ArgKinds.{ArgKinds}
+use Rattle.hb_tables.specs.declared.entry.Verdict.{Verdict}
+use Rattle.hb_tables.specs.Frames.{acts}
+use Rattle.hb_tables.specs.History.{spot, Adds, Learns}
+use Rattle.hb_tables.specs.Names.{name_of}
+use Rattle.hb_tables.specs.Rows.{site_in, type_of_key, types_in}
+use Rattle.hb_tables.specs.Standing.{standing}
+use Rattle.hb_tables.proofs.DeskLemmas.{adds_prefix, learns_acts, learns_prefix}
+use Rattle.hb_tables.proofs.FrontLemmas.{adds_act}
+use Rattle.hb_tables.proofs.HistoryLemmas.{changes_same}
+use Rattle.hb_call.specs.Calling.{IsAskedFor}
+use Rattle.hb_call.specs.Growth.{Grows, asked_after, asked_by, with_found, with_key}
+use Rattle.hb_call.specs.GrowthLaws.{prefix_itself, prefix_more}
+use Rattle.hb_call.specs.Held.{stands}
+use Rattle.hb_call.specs.Own.{LeavesKept, OwnAgrees, WasSeen, brings, cache_from, cache_of, changes_kept, item_by, kept_by}
+use Rattle.hb_call.specs.OwnCache.{AreUses, IsHit, IsOwnCache, IsTrueCheck, IsUse}
+
+-- ── the fold ──
+
+-- what acts make of the items, in two parts
+pub cache_append : (before : List Act) (items : Items) (l m : List Act) → cache_from before items (l ++ m) ≡ cache_from (before ++ l) (cache_from before items l) m
+cache_append before items [] m = ap (λ b. cache_from b items m) (sym (append-nil before))
+cache_append before items (a ∷ l) m = cache_append (before ++ a ∷ []) (kept_by before items a) l m ∙ ap (λ b. cache_from b (cache_from (before ++ a ∷ []) (kept_by before items a) l) m) (append_assoc before (a ∷ []) l)
+
+kept_left : (before : List Act) (items : Items) (a : Act) → changes_kept a ≡ false → kept_by before items a ≡ items
+kept_left before items (Call q key (Some site) args v) h = ap (λ b. if b then with_item key.0 (item_by (standing q.0 before) site) items else items) h
+kept_left before items (Call q key None args v) h = refl
+kept_left before items (Retype key site) h = absurd (cc h)
+kept_left before items (Define key site) h = absurd (cc h)
+kept_left before items (Hold q key ty changes) h = refl
+kept_left before items (Free q key) h = refl
+kept_left before items (Busy key pins) h = refl
+kept_left before items (WornType key) h = refl
+kept_left before items (WornDef key) h = refl
+
+cache_left : (before : List Act) (items : Items) (l : List Act) → LeavesKept l → cache_from before items l ≡ items
+cache_left before items [] h = refl
+cache_left before items (a ∷ l) h = ap (λ i. cache_from (before ++ a ∷ []) i l) (kept_left before items a h.0) ∙ cache_left (before ++ a ∷ []) items l h.1
+
+-- what a caller keeps stays over acts that leave it
+pub cache_stays : (c : ℕ) (old new : List Entry) (made : List Act) → acts c new ≡ acts c old ++ made → LeavesKept made → cache_of (acts c new) ≡ cache_of (acts c old)
+cache_stays c old new made is h = ap cache_of is ∙ cache_append [] nothing (acts c old) made ∙ cache_left (acts c old) (cache_of (acts c old)) made h
+
+-- and is what one act more makes of it
+pub cache_more : (c : ℕ) (old new : List Entry) (a : Act) → acts c new ≡ acts c old ++ a ∷ [] → cache_of (acts c new) ≡ kept_by (acts c old) (cache_of (acts c old)) a
+cache_more c old new a is = ap cache_of is ∙ cache_append [] nothing (acts c old) (a ∷ [])
+
+pub leaves_join : (l m : List Act) → LeavesKept l → LeavesKept m → LeavesKept (l ++ m)
+leaves_join [] m h i = i
+leaves_join (a ∷ l) m h i = (h.0, leaves_join l m h.1 i)
+
+-- ── names that were asked for ──
+
+get_more : {X : Type 0} (a b : List X) (k : ℕ) (x : X) → slice_get a k ≡ Some x → slice_get (a ++ b) k ≡ Some x
+get_more [] b k x e = absurd (none-some x e)
+get_more (y ∷ a) b zero x e = e
+get_more (y ∷ a) b (suc k) x e = get_more a b k x e
+
+-- what was asked for stays so
+pub asked_on : (names known was asked : List Name) (k : ℕ) → IsPrefix names known → IsPrefix was asked → IsAskedFor names was k → IsAskedFor known asked k
+asked_on names known was asked k longer more h = record {
+  name = h.name;
+  named = subst (λ ns. slice_get ns k ≡ Some h.name) longer.1 (get_more names longer.0 k h.name h.named);
+  at = h.at;
+  there = place-longer was asked h.name h.at more h.there;
+}
+
+key_begins : (names asked : List Name) (k : ℕ) → IsPrefix asked (with_key names asked k)
+key_begins names asked k = by (slice_get names k)
+  where
+    by : (o : Option Name) → IsPrefix asked (with_found asked o)
+    by None = prefix_itself asked
+    by (Some name) = with_name-begins asked name
+
+act_begins : (names asked : List Name) (a : Act) → IsPrefix asked (asked_by names asked a)
+act_begins names asked (Hold q key ty changes) = key_begins names asked key.0
+act_begins names asked (Free q key) = prefix_itself asked
+act_begins names asked (Retype key site) = key_begins names asked key.0
+act_begins names asked (Busy key pins) = key_begins names asked key.0
+act_begins names asked (WornType key) = key_begins names asked key.0
+act_begins names asked (Define key site) = key_begins names asked key.0
+act_begins names asked (WornDef key) = key_begins names asked key.0
+act_begins names asked (Call q key site args v) = prefix_itself asked
+
+-- the names that were asked for begin those that are so after these acts
+pub asked_begins : (names asked : List Name) (l : List Act) → IsPrefix asked (asked_after names asked l)
+asked_begins names asked [] = prefix_itself asked
+asked_begins names asked (a ∷ l) = prefix_more asked (asked_by names asked a) (asked_after names (asked_by names asked a) l) (act_begins names asked a) (asked_begins names (asked_by names asked a) l)
+
+pub grows_asked : (c : ℕ) (known was asked : List Name) (old new : List Entry) → Grows c known was asked old new → IsPrefix was asked
+grows_asked c known was asked old new g = subst (IsPrefix was) (sym (g.names known (prefix_itself known))) (asked_begins known was g.made)
+
+-- a key whose name was asked for asks for nothing new
+pub asked_already : (names asked : List Name) (k : ℕ) → IsAskedFor names asked k → with_key names asked k ≡ asked
+asked_already names asked k h = ap (with_found asked) h.named ∙ with_name-known asked h.name h.at h.there
+
+-- ── what was seen ──
+
+-- a type changes only with its count
+pub seen_now : (k n : ℕ) (site : Option TypeSite) (log : List Entry) → WasSeen k n site log → (spot k log).changes ≡ n → (spot k log).ty ≡ site
+seen_now k n site log h = subst (λ l. (spot k l).changes ≡ n → (spot k l).ty ≡ site) h.begins.1 (λ e. changes_same k h.at h.begins.0 (e ∙ sym h.changes) ∙ h.ty)
+
+pub seen_on : (k n : ℕ) (site : Option TypeSite) (old new : List Entry) → IsPrefix old new → WasSeen k n site old → WasSeen k n site new
+seen_on k n site old new p h = record { at = h.at; begins = prefix_more h.at old new h.begins p; changes = h.changes; ty = h.ty }
+
+-- what a key has was seen
+pub seen_here : (k n : ℕ) (site : Option TypeSite) (log : List Entry) → site ≡ (spot k log).ty → n ≡ (spot k log).changes → WasSeen k n site log
+seen_here k n site log ty changes = record { at = log; begins = prefix_itself log; changes = sym changes; ty = sym ty }
+
+-- ── kept checks stay true ──
+
+module _ (t : Table) (names known was asked : List Name) (old new : List Entry) (longer : IsPrefix names known) (more : IsPrefix was asked) (goes : IsPrefix old new) where
+  pub use_on : (u : Used) (s : Seen) → IsUse t names was old u s → IsUse t known asked new u s
+  use_on u s h = record {
+    named = place-longer names known (name_of t (key_of u)) s.key.0 longer h.named;
+    was = seen_on s.key.0 s.changes s.site old new goes h.was;
+    typed = h.typed;
+    asked_for = asked_on names known was asked s.key.0 longer more h.asked_for;
+  }
+
+  pub uses_on : (us : List Used) (seen : List Seen) → AreUses t names was old us seen → AreUses t known asked new us seen
+  uses_on [] [] h = tt
+  uses_on [] (s ∷ seen) h = absurd h
+  uses_on (u ∷ us) [] h = absurd h
+  uses_on (u ∷ us) (s ∷ seen) h = (use_on u s h.0, uses_on us seen h.1)
+
+  pub check_on : (kept : Kept) → IsTrueCheck t names was old kept → IsTrueCheck t known asked new kept
+  check_on kept h = record {
+    good = h.good;
+    name = h.name;
+    named = place-longer names known h.name kept.key.0 longer h.named;
+    class = h.class;
+    site = h.site;
+    was = seen_on kept.key.0 kept.changes (Some h.site) old new goes h.was;
+    typed = h.typed;
+    asked_for = asked_on names known was asked kept.key.0 longer more h.asked_for;
+    uses = uses_on kept.derivation.uses.items kept.counts.items h.uses;
+    once = h.once;
+  }
+
+-- ── the own cache as its caller goes on ──
+
+-- a caller without acts keeps nothing
+pub own_none : (t : Table) (names asked : List Name) (c : ℕ) (log : List Entry) (cache : List (Option Kept)) → acts c log ≡ [] → ((k : ℕ) → kept_at cache k ≡ None) → IsOwnCache t names asked c log cache
+own_none t names asked c log cache none empty = record {
+  same = λ k. subst (λ (o : Option Kept). SameItem (option_map item_of o) (cache_of (acts c log) k)) (sym (empty k)) (subst (λ l. SameItem None (cache_of l k)) (sym none) tt);
+  each = λ k kept e. absurd (none-some kept (sym (empty k) ∙ e));
+}
+
+dropped_same : (key : ℕ) (o : Option Kept) (i : Option Item) → SameItem (option_map item_of o) i → SameItem (option_map item_of (not_using key o)) (unless_used key i)
+dropped_same key None None h = tt
+dropped_same key None (Some i) h = absurd h
+dropped_same key (Some kept) None h = absurd h
+dropped_same key (Some kept) (Some i) h = by (uses kept key) (is_some (i.count key)) (ap is_some (h.counts key))
+  where
+    by : (a b : Bool) → a ≡ b → SameItem (option_map item_of (if a then None else Some kept)) (if b then None else Some i)
+    by true true e = tt
+    by false false e = h
+    by true false e = absurd (cc e)
+    by false true e = absurd (cc e)
+
+still_kept : (key : ℕ) (o : Option Kept) (kept : Kept) → not_using key o ≡ Some kept → o ≡ Some kept
+still_kept key None kept e = absurd (none-some kept e)
+still_kept key (Some x) kept e = by (uses x key) e
+  where
+    by : (b : Bool) → (if b then None else Some x) ≡ Some kept → Some x ≡ Some kept
+    by true e = absurd (none-some kept e)
+    by false e = e
+
+cleared_same : (b : Bool) (o : Option Kept) (i : Option Item) → SameItem (option_map item_of o) i → SameItem (option_map item_of (if b then None else o)) (if b then None else i)
+cleared_same true o i h = tt
+cleared_same false o i h = h
+
+not_cleared : (b : Bool) (o : Option Kept) (kept : Kept) → (if b then None else o) ≡ Some kept → o ≡ Some kept
+not_cleared true o kept e = absurd (none-some kept e)
+not_cleared false o kept e = e
+
+put_same : (b : Bool) (kept : Kept) (item : Item) (o : Option Kept) (i : Option Item) → SaysSame (item_of kept) item → SameItem (option_map item_of o) i → SameItem (option_map item_of (if b then Some kept else o)) (if b then Some item else i)
+put_same true kept item o i s h = s
+put_same false kept item o i s h = h
+
+-- what one act more makes of an own cache
+step_of : (t : Table) (names known was asked : List Name) (c : ℕ) (old new : List Entry) (a : Act) (cache left : List (Option Kept)) → acts c new ≡ acts c old ++ a ∷ []
+    → ((k : ℕ) → SameItem (items_in left k) (kept_by (acts c old) (cache_of (acts c old)) a k)) → ((k : ℕ) (kept : Kept) → kept_at left k ≡ Some kept → IsTrueCheck t known asked new kept)
+    → IsOwnCache t known asked c new left
+step_of t names known was asked c old new a cache left is same each = record { same = λ k. subst (λ (items : Items). SameItem (items_in left k) (items k)) (sym (cache_more c old new a is)) (same k); each = each }
+
+module _ (t : Table) (names known was asked : List Name) (c : ℕ) (old new : List Entry) (cache : List (Option Kept)) (longer : IsPrefix names known) (more : IsPrefix was asked) (own : IsOwnCache t names was c old cache) where
+  -- it stays over longer fronts, with more names known and asked for, as long as its caller does nothing that changes it
+  pub own_stays : (made : List Act) → IsPrefix old new → acts c new ≡ acts c old ++ made → LeavesKept made → IsOwnCache t known asked c new cache
+  own_stays made goes is leaves = record {
+    same = λ k. subst (λ (items : Items). SameItem (items_in cache k) (items k)) (sym (cache_stays c old new made is leaves)) (own.same k);
+    each = λ k kept e. check_on t names known was asked old new longer more goes kept (own.each k kept e);
+  }
+
+  -- so it does over what others do
+  pub own_learns : Learns c old new → IsOwnCache t known asked c new cache
+  own_learns learns = own_stays [] (learns_prefix c old new learns) (learns_acts c old new learns ∙ sym (append-nil (acts c old))) tt
+
+  -- and over one act that leaves it
+  pub own_adds : (a : Act) → Adds c old new a → changes_kept a ≡ false → IsOwnCache t known asked c new cache
+  own_adds a adds leaves = own_stays (a ∷ []) (adds_prefix c old new a adds) (adds_act c old new a adds) (leaves, tt)
+
+  -- its caller gave the key a type, and what used the key was dropped
+  pub own_retype : (key : KeyId) (site : TypeSite) (left : List (Option Kept)) → Adds c old new (Retype key site) → ((k : ℕ) → kept_at left k ≡ not_using key.0 (kept_at cache k)) → IsOwnCache t known asked c new left
+  own_retype key site left adds drops = step_of t names known was asked c old new (Retype key site) cache left (adds_act c old new (Retype key site) adds)
+      (λ k. subst (λ (o : Option Kept). SameItem (option_map item_of o) (unless_used key.0 (cache_of (acts c old) k))) (sym (drops k)) (dropped_same key.0 (kept_at cache k) (cache_of (acts c old) k) (own.same k)))
+      (λ k kept e. check_on t names known was asked old new longer more (adds_prefix c old new (Retype key site) adds) kept (own.each k kept (still_kept key.0 (kept_at cache k) kept (sym (drops k) ∙ e))))
+
+  -- its caller gave the key a definition, and what was kept for the key was dropped
+  pub own_define : (key : KeyId) (site : BodySite) (left : List (Option Kept)) → Adds c old new (Define key site) → ((k : ℕ) → kept_at left k ≡ (if eqb key.0 k then None else kept_at cache k)) → IsOwnCache t known asked c new left
+  own_define key site left adds drops = step_of t names known was asked c old new (Define key site) cache left (adds_act c old new (Define key site) adds)
+      (λ k. subst (λ (o : Option Kept). SameItem (option_map item_of o) (without_item key.0 (cache_of (acts c old)) k)) (sym (drops k)) (cleared_same (eqb key.0 k) (kept_at cache k) (cache_of (acts c old) k) (own.same k)))
+      (λ k kept e. check_on t names known was asked old new longer more (adds_prefix c old new (Define key site) adds) kept (own.each k kept (not_cleared (eqb key.0 k) (kept_at cache k) kept (sym (drops k) ∙ e))))
+
+  -- its caller has a Call that brings a derivation, and a true check that says the same as the Holds which stand was put there
+  pub own_put : (q : CallNo) (key : KeyId) (site : BodySite) (args : ArgKinds) (v : Verdict) (kept : Kept) (left : List (Option Kept)) → IsPrefix old new → acts c new ≡ acts c old ++ Call q key (Some site) args v ∷ [] → brings v ≡ true
+      → kept.key ≡ key → SaysSame (item_of kept) (item_by (stands c q.0 old) site) → IsTrueCheck t known asked new kept → ((k : ℕ) → kept_at left k ≡ (if eqb kept.key.0 k then Some kept else kept_at cache k)) → IsOwnCache t known asked c new left
+  own_put q key site args v kept left goes is new_one called says true_one puts = step_of t names known was asked c old new (Call q key (Some site) args v) cache left is
+      (λ k. subst (λ (o : Option Kept). SameItem (option_map item_of o) ((if brings v then with_item key.0 (item_by (stands c q.0 old) site) (cache_of (acts c old)) else cache_of (acts c old)) k)) (sym (puts k))
+      (subst (λ (b : Bool). SameItem (option_map item_of (if eqb kept.key.0 k then Some kept else kept_at cache k)) ((if b then with_item key.0 (item_by (stands c q.0 old) site) (cache_of (acts c old)) else cache_of (acts c old)) k)) (sym new_one)
+      (subst (λ (j : KeyId). SameItem (option_map item_of (if eqb kept.key.0 k then Some kept else kept_at cache k)) (with_item j.0 (item_by (stands c q.0 old) site) (cache_of (acts c old)) k)) called
+      (put_same (eqb kept.key.0 k) kept (item_by (stands c q.0 old) site) (kept_at cache k) (cache_of (acts c old) k) says (own.same k)))))
+      (λ k x e. each (eqb kept.key.0 k) k x (sym (puts k) ∙ e))
+    where
+      each : (b : Bool) (k : ℕ) (x : Kept) → (if b then Some kept else kept_at cache k) ≡ Some x → IsTrueCheck t known asked new x
+      each true k x e = subst (λ (y : Kept). IsTrueCheck t known asked new y) (same_Some kept x e) true_one
+      each false k x e = check_on t names known was asked old new longer more goes x (own.each k x e)
+
+pub own_grows : (t : Table) (names known was asked : List Name) (c : ℕ) (old new : List Entry) (cache : List (Option Kept)) (g : Grows c known was asked old new) → IsPrefix names known → LeavesKept g.made → IsOwnCache t names was c old cache → IsOwnCache t known asked c new cache
+own_grows t names known was asked c old new cache g longer leaves own = own_stays t names known was asked c old new cache longer (grows_asked c known was asked old new g) own g.made g.kept g.grows leaves
+
+-- it stays with more names known and asked for
+pub own_named : (t : Table) (names known was asked : List Name) (c : ℕ) (log : List Entry) (cache : List (Option Kept)) → IsPrefix names known → IsPrefix was asked → IsOwnCache t names was c log cache → IsOwnCache t known asked c log cache
+own_named t names known was asked c log cache longer more own = own_stays t names known was asked c log log cache longer more own [] (prefix_itself log) (sym (append-nil (acts c log))) tt
+
+-- ── the types of a kept check that agrees ──
+
+module _ (t : Table) (names asked : List Name) (log : List Entry) where
+  use_type : (u : Used) (s : Seen) → IsUse t names asked log u s → (spot s.key.0 log).changes ≡ s.changes → types_in t names log (key_of u) ≡ type_of (sites_of t) u
+  use_type u s h now = ap (λ o. type_at (sites_of t) (site_in log o)) h.named ∙ ap (λ (o : Option TypeSite). type_at (sites_of t) (option_map (λ (x : TypeSite). x.0) o)) (seen_now s.key.0 s.changes s.site log h.was now) ∙ h.typed
+
+  -- where the counts of uses are as they were, their methods have the types for which the uses stand
+  pub uses_agree : (us : List Used) (seen : List Seen) → AreUses t names asked log us seen → AllByRecursion (λ s. (spot s.key.0 log).changes ≡ s.changes) seen → AgreesWith (sites_of t) us (types_in t names log)
+  uses_agree [] [] h now = tt
+  uses_agree [] (s ∷ seen) h now = absurd h
+  uses_agree (u ∷ us) [] h now = absurd h
+  uses_agree (u ∷ us) (s ∷ seen) h now = (use_type u s h.0 now.0, uses_agree us seen h.1 now.1)
+
+  -- where the count of its key is as it was, the key has the derivation's declared type
+  pub check_type : (kept : Kept) → IsTrueCheck t names asked log kept → (spot kept.key.0 log).changes ≡ kept.changes → type_of_key t log kept.key.0 ≡ sites_of t kept.derivation.declared.0
+  check_type kept h now = ap (λ (o : Option TypeSite). type_at (sites_of t) (option_map (λ (x : TypeSite). x.0) o)) (seen_now kept.key.0 kept.changes (Some h.site) log h.was now) ∙ h.typed
+
+-- ── when a call finds its own check ──
+
+same_some : (i : Item) (o : Option Item) → SameItem (Some i) o → (j : Item) × (o ≡ Some j) × SaysSame i j
+same_some i None h = absurd h
+same_some i (Some j) h = (j, refl, h)
+
+some_same : (o : Option Kept) (j : Item) → SameItem (option_map item_of o) (Some j) → (kept : Kept) × (o ≡ Some kept) × SaysSame (item_of kept) j
+some_same None j h = absurd h
+some_same (Some kept) j h = (kept, refl, h)
+
+among_tells : (log : List Entry) (seen : List Seen) → AllByRecursion (λ s. (spot s.key.0 log).changes ≡ s.changes) seen → (k n : ℕ) → count_in seen k ≡ Some n → (spot k log).changes ≡ n
+among_tells log [] h k n e = absurd (none-some n e)
+among_tells log (s ∷ seen) h k n e = by (eqb s.key.0 k) refl (among_tells log seen h.1 k n) e
+  where
+    by : (b : Bool) → eqb s.key.0 k ≡ b → (count_in seen k ≡ Some n → (spot k log).changes ≡ n) → (if b then Some s.changes else count_in seen k) ≡ Some n → (spot k log).changes ≡ n
+    by true is later e = ap (λ i. (spot i log).changes) (sym (eqb-true s.key.0 k is)) ∙ h.0 ∙ same_Some s.changes n e
+    by false is later e = later e
+
+count_tells : (log : List Entry) (kept : Kept) → (spot kept.key.0 log).changes ≡ kept.changes → AllByRecursion (λ s. (spot s.key.0 log).changes ≡ s.changes) kept.counts.items → (k n : ℕ) → count_of kept k ≡ Some n → (spot k log).changes ≡ n
+count_tells log kept own h k n e = by (eqb kept.key.0 k) refl e
+  where
+    by : (b : Bool) → eqb kept.key.0 k ≡ b → (if b then Some kept.changes else count_in kept.counts.items k) ≡ Some n → (spot k log).changes ≡ n
+    by true is e = ap (λ i. (spot i log).changes) (sym (eqb-true kept.key.0 k is)) ∙ own ∙ same_Some kept.changes n e
+    by false is e = among_tells log kept.counts.items h k n e
+
+each_tells : (log : List Entry) (kept : Kept) (seen : List Seen) → ((k n : ℕ) → count_of kept k ≡ Some n → (spot k log).changes ≡ n) → AllByRecursion (λ s. count_of kept s.key.0 ≡ Some s.changes) seen → AllByRecursion (λ s. (spot s.key.0 log).changes ≡ s.changes) seen
+each_tells log kept [] tells h = tt
+each_tells log kept (s ∷ seen) tells h = (tells s.key.0 s.changes h.0, each_tells log kept seen tells h.1)
+
+own_count : (kept : Kept) → count_of kept kept.key.0 ≡ Some kept.changes
+own_count kept = ap (λ b. if b then Some kept.changes else count_in kept.counts.items kept.key.0) (eq-eqb kept.key.0 kept.key.0 refl)
+
+module _ (t : Table) (names asked : List Name) (c k : ℕ) (log : List Entry) (cache : List (Option Kept)) (own : IsOwnCache t names asked c log cache) where
+  -- what is kept for the key agrees: an own check agrees
+  pub hit_agrees : IsHit cache k log → OwnAgrees c k log
+  hit_agrees h =
+      let s = same_some (item_of h.kept) (cache_of (acts c log) k) (subst (λ (o : Option Kept). SameItem (option_map item_of o) (cache_of (acts c log) k)) h.there (own.same k)) in
+      record { item = s.0; kept = s.1; agrees = record { body = h.body ∙ ap Some s.2.body; counts = λ j n e. count_tells log h.kept h.own h.counts j n (s.2.counts j ∙ e) } }
+
+  -- and the other way round
+  pub agrees_hits : OwnAgrees c k log → IsHit cache k log
+  agrees_hits a =
+      let s = some_same (kept_at cache k) a.item (subst (λ (o : Option Item). SameItem (items_in cache k) o) a.kept (own.same k)) in
+      let tells : (j n : ℕ) → count_of s.0 j ≡ Some n → (spot j log).changes ≡ n = λ j n e. a.agrees.counts j n (sym (s.2.counts j) ∙ e) in
+      record {
+        kept = s.0;
+        there = s.1;
+        body = a.agrees.body ∙ ap Some (sym s.2.body);
+        own = tells s.0.key.0 s.0.changes (own_count s.0);
+        counts = each_tells log s.0 s.0.counts.items tells (own.each k s.0 s.1).once;
+      }
+
+  -- nothing is kept for the key
+  pub unkept_differs : kept_at cache k ≡ None → OwnAgrees c k log → ⊥
+  unkept_differs none a = let h = agrees_hits a in none-some h.kept (sym none ∙ h.there)
+
+  -- what is kept is of another body
+  pub body_differs : (kept : Kept) → kept_at cache k ≡ Some kept → ((spot k log).body ≡ Some kept.derivation.body → ⊥) → OwnAgrees c k log → ⊥
+  body_differs kept there other a = let h = agrees_hits a in other (subst (λ (x : Kept). (spot k log).body ≡ Some x.derivation.body) (same_Some h.kept kept (sym h.there ∙ there)) h.body)
+
+  -- the key's type was changed since
+  pub own_differs : (kept : Kept) → kept_at cache k ≡ Some kept → ((spot kept.key.0 log).changes ≡ kept.changes → ⊥) → OwnAgrees c k log → ⊥
+  own_differs kept there other a = let h = agrees_hits a in other (subst (λ (x : Kept). (spot x.key.0 log).changes ≡ x.changes) (same_Some h.kept kept (sym h.there ∙ there)) h.own)
+
+  -- the type of a use was changed since
+  pub count_differs : (kept : Kept) (s : Seen) (first rest : List Seen) → kept_at cache k ≡ Some kept → kept.counts.items ≡ first ++ s ∷ rest → ((spot s.key.0 log).changes ≡ s.changes → ⊥) → OwnAgrees c k log → ⊥
+  count_differs kept s first rest there among other a =
+      let h = agrees_hits a in
+      other (middle first (subst (λ (l : List Seen). AllByRecursion (λ s. (spot s.key.0 log).changes ≡ s.changes) l) among (subst (λ (x : Kept). AllByRecursion (λ s. (spot s.key.0 log).changes ≡ s.changes) x.counts.items) (same_Some h.kept kept (sym h.there ∙ there)) h.counts)))
+    where
+      middle : (first : List Seen) → AllByRecursion (λ s. (spot s.key.0 log).changes ≡ s.changes) (first ++ s ∷ rest) → (spot s.key.0 log).changes ≡ s.changes
+      middle [] h = h.0
+      middle (x ∷ first) h = middle first h.1
