@@ -1,5 +1,5 @@
 -- Names that are what the keys of a set say.
-use Rattle.std.proofs.Common.{◌≡◌, ℕ, suc, ◌+◌, ◌<◌, ◌⊎◌, inl, inr, Bool, true, false, cond, not, ◌||◌, if◌then◌else◌, List, [], ◌∷◌, ◌++◌, map, length, Option, Some, None, refl, sym, ap, ◌∙◌, arith, position, true≢false}
+use Rattle.std.proofs.Common.{◌≡◌, ℕ, suc, ◌+◌, ◌<◌, ◌≤◌, ◌↔◌, ◌⊎◌, inl, inr, Bool, true, false, cond, not, ◌||◌, if◌then◌else◌, List, [], ◌∷◌, ◌++◌, map, length, Option, Some, None, refl, sym, ap, subst, ◌∙◌, arith, position, true≢false}
 use Rattle.std.specs.Prelude.{slice_get, option_map, nat_lt, is_some}
 use Rattle.std.specs.List.{IsDistinct, list_any, position_or_len}
 use Rattle.std.proofs.lemmas.Bool.{lt-ltb, le-ltb, ltb-true, ltb-false, cases_order}
@@ -8,7 +8,7 @@ use Rattle.std.proofs.lemmas.Option.{none-some, slice_get-map, get_or_from_slice
 use Rattle.std.proofs.lemmas.Map.Keys.{apart_from_distinct}
 use Rattle.indexmap.specs.IndexSet.{insert_key}
 use Rattle.hb_names.specs.Names.{Name, same, place, Differ}
-use Rattle.hb_names.proofs.NameLemmas.{same-equiv}
+use Rattle.hb_names.proofs.NameLemmas.{same-equiv, place-test, place-within}
 
 position-cons : {X : Type 0} (p : X → Bool) (x : X) (xs : List X) → position p (x ∷ xs) ≡ (if p x then Some 0 else option_map suc (position p xs))
 position-cons p x xs = by (p x) (position_or_len p xs) (length xs)
@@ -90,3 +90,11 @@ module _ {X : Type 0} (f : X → Name) (keys : List X) (names : List Name) (seen
   -- a key that is new gets the next index
   pub index-new : place names name ≡ None → position_or_len (λ k. same (f key) (f k)) keys ≡ length names
   index-new new = past (λ k. same (f key) (f k)) keys (place-of f keys (f key) ∙ ap (place (map f keys)) is ∙ ap (λ ns. place ns name) seen ∙ new) ∙ sym counted
+
+-- whether a place of a set's keys is a name's
+module _ {X : Type 0} (f : X → Name) (keys : List X) (names : List Name) (seen : map f keys ≡ names) (name : Name) (k : ℕ) where
+  pub stands : (key : X) → IsDistinct (λ a b. same (f a) (f b)) keys → slice_get keys k ≡ Some key → (same (f key) name ≡ true) ↔ (place names name ≡ Some k)
+  stands key distinct at = place-test names name (f key) k (subst Differ seen (differ f keys distinct)) (ap (λ ns. slice_get ns k) (sym seen) ∙ slice_get-map f keys k ∙ ap (option_map f) at)
+
+  pub none-past : length keys ≤ k → place names name ≡ Some k → ⊥
+  none-past past e = let below = place-within names name k e in let count = sym (ap length seen) ∙ length-map keys f in omega arith
