@@ -51,27 +51,8 @@ counted k (h ∷ hs) (key ∷ held) e t = go (nat_eq key.0 k) refl t (counted k 
     go true is t rest = let o : eqb k h.key ≡ true = eq-eqb k h.key (sym (eqb-true key.0 k is) ∙ same) in let n = ap (λ (b : Bool). cond b 1 0 + stands_of k hs) o in omega (arith, n)
     go false is t rest = let r = rest t in omega (arith, r)
 
-uncounted : (k : ℕ) (hs : List Stand) (held : List KeyId) → map (λ (h : Stand). h.key) hs ≡ map (λ (k : KeyId). k.0) held → has_key held k ≡ false → stands_of k hs ≡ 0
-uncounted k [] held e t = refl
-uncounted k (h ∷ hs) [] e t = absurd (cc e)
-uncounted k (h ∷ hs) (key ∷ held) e t = go (nat_eq key.0 k) refl t (uncounted k hs held (cc e))
-  where
-    same : key.0 ≡ h.key
-    same = cc e
-
-    apart : (b : Bool) → eqb k h.key ≡ b → nat_eq key.0 k ≡ false → eqb k h.key ≡ false
-    apart false x f = x
-    apart true x f = absurd (let u = eq-eqb key.0 k (same ∙ sym (eqb-true k h.key x)) in cc (u, f))
-
-    go : (b : Bool) → nat_eq key.0 k ≡ b → (if b then true else has_key held k) ≡ false → (has_key held k ≡ false → stands_of k hs ≡ 0) → stands_of k (h ∷ hs) ≡ 0
-    go true is t rest = absurd (cc t)
-    go false is t rest = let r = rest t in let n = ap (λ (b : Bool). cond b 1 0 + stands_of k hs) (apart (eqb k h.key) refl is) in omega (arith, r, n)
-
 pub held_key : (c q k : ℕ) (held : List KeyId) (log : List Entry) → Holds c q held log → has_key held k ≡ true → times (c, q) (spot k log).calls ≡ 1
 held_key c q k held log h t = let a = held_stands c q k log in let b = counted k (stands c q log) held h.keys t in let o = h.once k in omega (arith, a, b, o)
-
-pub free_key : (c q k : ℕ) (held : List KeyId) (log : List Entry) → Holds c q held log → has_key held k ≡ false → times (c, q) (spot k log).calls ≡ 0
-free_key c q k held log h t = held_stands c q k log ∙ uncounted k (stands c q log) held h.keys t
 
 -- ── the uses of a kept check ──
 

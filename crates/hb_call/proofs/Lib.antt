@@ -13,6 +13,8 @@ pub mod RunsLemmas
 pub mod NarrowLemmas
 pub mod KeptLemmas
 pub mod NoteLemmas
+pub mod LooksLemmas
+pub mod ApartLemmas
 pub mod CompareLemmas
 pub mod RulingLemmas
 pub mod MarkLemmas

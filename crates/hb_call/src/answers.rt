@@ -1,7 +1,7 @@
 //! What a call was asked while its body is checked, and what it answered.
 
 ghost use Rattle.std.specs.Prelude.{◌≡◌};
-ghost use Rattle.hb_call.specs.Calling.{has_key, held_among};
+ghost use Rattle.hb_call.specs.Calling.{held_among};
 
 use hb_cache::Seen;
 use hb_check::lookup::LookFail;
@@ -48,16 +48,4 @@ pub fn found(answers: &[Answer], key: KeyId) -> Option<Held>
         }
     }
     None
-}
-
-/// Whether the key is one of these.
-pub fn is_held(held: &[KeyId], key: KeyId) -> bool
-    ensures { result ≡ has_key held.now key.0 }
-{
-    for other in held {
-        if *other == key {
-            return true;
-        }
-    }
-    false
 }

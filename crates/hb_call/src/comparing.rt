@@ -1,6 +1,7 @@
 //! The comparison of a call with the check that is kept, and the check of its body.
 
 ghost use Rattle.std.specs.Prelude.{◌≡◌, ◌<◌, ◌≤◌, ℕ, take, List, [], ◌∷◌, ◌++◌, length, None, Some, slice_get, Ok, true, false, IfErr, IfOk, OnOk};
+ghost use Rattle.hb_tree.specs.Program.{IsProgram};
 ghost use Rattle.hb_names.specs.Names.{place};
 ghost use Rattle.hb_cache.specs.Kept.{kept_at};
 ghost use Rattle.hb_tables.specs.declared.entry.Act.TheVariants.{Hold};
@@ -11,7 +12,7 @@ ghost use Rattle.hb_call.specs.Entering.{IsFullFor, IsRightlyFor};
 ghost use Rattle.hb_call.specs.OwnCache.{IsTrueCheck};
 ghost use Rattle.hb_call.specs.Seen.{GoesOn, IsHolding, IsRuledNow, IsUnderWay, KeepsOwn, given_of, moment_of};
 
-use crate::answers::{Answer, is_held};
+use crate::answers::Answer;
 use crate::call::Call;
 use crate::frame::CallFail;
 use crate::ruling::{Ruling, told};
@@ -96,6 +97,8 @@ impl<D: Desk, N: Names> Call<'_, '_, '_, '_, D, N> {
         ensures names { self.new.names ≡ self.old.names }
         ensures fresh { (self.new.answers.now.items ≡ []) × (self.new.refused ≡ None) }
     {
+        // Its count tells that it is a program, whose names differ.
+        let _nodes = self.prog.nodes();
         for i in 0..kept.counts.len() {
             if let Some(held) = self.compare_at(alloc, kept, i)? {
                 note(self.compared, kept, i, held)?;
@@ -105,7 +108,7 @@ impl<D: Desk, N: Names> Call<'_, '_, '_, '_, D, N> {
         Ok(true)
     }
 
-    // Holds the key of one use, unless it is held. What the hold found, where the type was changed since.
+    // Holds the key of one use, unless it is the call's own. What the hold found, where the type was changed since.
     #[inline]
     fn compare_at(
         &mut self,
@@ -114,6 +117,7 @@ impl<D: Desk, N: Names> Call<'_, '_, '_, '_, D, N> {
         at: usize,
     ) -> Result<Option<Held>, CallFail>
         requires at { at < length kept.now.counts.items }
+        requires program { IsProgram self.old.prog.now }
         requires calling { IsCalling self.old.prog.now (D.fixed self.old.desk.now) self.old.q.0 (N.known self.old.names.now) (N.asked self.old.names.now) (D.front self.old.desk.now) self.old.key self.old.own self.old.held.now.items (take at (answers_kept kept.now)) }
         requires few { length (N.known self.old.names.now) ≤ NAMES_MAX }
         requires check { IsTrueCheck self.old.prog.now (N.known self.old.names.now) (N.asked self.old.names.now) (D.front self.old.desk.now) kept.now }
@@ -129,7 +133,8 @@ impl<D: Desk, N: Names> Call<'_, '_, '_, '_, D, N> {
         ensures refused { self.new.refused ≡ self.old.refused }
     {
         let seen = kept.counts[at];
-        if is_held(self.held, seen.key) {
+        // A use has the key of none before it, since their methods differ. It may have the called method's.
+        if seen.key == self.key {
             return Ok(None);
         }
         let held = self.hold(alloc, seen.key)?;

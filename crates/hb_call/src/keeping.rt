@@ -23,6 +23,7 @@ use hb_types::ids::KeyId;
 use std::alloc::{AllocError, Global};
 
 /// Keeps the check that the call made, and ends it where there is no memory for that.
+#[inline(always)]
 pub fn keep<D: Desk>(
     alloc: Global,
     ended: Ended,
