@@ -1,5 +1,5 @@
 -- The receiver and the arguments of a call.
-use Rattle.std.proofs.Common.{◌≡◌, ℕ, suc, ◌+◌, ◌<◌, ◌≤◌, List, [], ◌∷◌, ◌++◌, length, get_or, take, drop, Some, None, false, refl, sym, ap, ◌∙◌, arith, Vec, Global}
+use Rattle.std.proofs.Common.{◌≡◌, ℕ, suc, ◌+◌, ◌<◌, ◌≤◌, List, [], ◌∷◌, ◌++◌, length, get_or, take, drop, Some, None, refl, sym, ap, ◌∙◌, arith, Vec, Global}
 use Rattle.std.specs.Prelude.{reverse, map}
 use Rattle.std.specs.List.{AllByRecursion}
 use Rattle.std.proofs.Common.{zero}
@@ -12,6 +12,8 @@ use Rattle.hb_tree.specs.Tree.{Tree, TCall, Forest, NoTree, Trees}
 use Rattle.hb_names.specs.Names.{Name}
 use Rattle.hb_tables.specs.declared.entry.Entry.{Entry}
 use Rattle.hb_tables.specs.declared.entry.Act.{Act}
+use Rattle.hb_eval.specs.declared.state.Hand.{Hand}
+use Rattle.hb_eval.specs.declared.state.Hand.TheVariants as hands
 use Rattle.hb_eval.specs.declared.value.Value.{Value}
 use Rattle.hb_eval.specs.declared.cont.Cont.{Cont}
 use Rattle.hb_eval.specs.declared.cont.Cont.TheVariants as cont
@@ -23,7 +25,7 @@ use Rattle.hb_eval.specs.Meaning.{ev, ev_arguments}
 use Rattle.hb_eval.specs.Machine.{World, Frames, meaning, room, resume, st_of, trees_from, arguments_from}
 use Rattle.hb_eval.specs.Steps.{arguments_in, forest_size}
 use Rattle.hb_eval.specs.Stacks.{frames_at}
-use Rattle.hb_eval.specs.Turns.{world, with_value, with_operands, after, Reads}
+use Rattle.hb_eval.specs.Turns.{Telling, world, with_value, with_operands, after, Goes, Reads, Turned}
 use Rattle.hb_eval.specs.Entries.{calling}
 use Rattle.hb_eval.proofs.BlockLemmas.{from_place, from_end}
 use Rattle.hb_eval.proofs.StackLemmas.{reverse_drop, reverse_take}
@@ -84,7 +86,7 @@ argument_count t id r m ids tree = ap arguments_in tree ∙ size_at (tree_at t) 
 
 -- the next argument begins
 pub argument_starts : (known : List Name) (t : Table) (c : ℕ) (log : List Entry) (id : NodeId) (n at r m : ℕ) (ids : List NodeId) (d a : NodeId) (frames : List Framed) (old new : State) (move : Move)
-    → new ≡ record old { at = a } → move ≡ record { under = None; push = Some (cont.Arguments id n); gives = false; stops = false }
+    → new ≡ record old { at = a } → move ≡ record { under = None; push = Some (cont.Arguments id n); hand = hands.Begins }
     → tree_at t id.0 ≡ TCall id.0 (tree_at t r) m (forest_at (tree_at t) ids) → n < length ids → a ≡ get_or ids n d → at + suc n ≡ length old.operands.items
     → Reads known c log log old new (with_operands t at (λ w room vs s. arguments_from w room (tree_at t id.0) n vs s) frames old) (after t move frames new)
 argument_starts known t c log id n at r m ids d a frames old new move is mv tree lt read size =
@@ -117,3 +119,11 @@ pub argument_expr : (t : Table) (ids : List NodeId) (n : ℕ) (d : NodeId) → A
 argument_expr t [] n d all lt = absurd (omega (arith, lt))
 argument_expr t (i ∷ ids) zero d all lt = all.0
 argument_expr t (i ∷ ids) (suc n) d all lt = argument_expr t ids n d all.1 (omega (arith, lt))
+
+-- the same turn, as it is seen from a state before
+pub turned_before : (t : Table) (known : List Name) (c : ℕ) (past now : List Entry) (taken more ended pending weight : ℕ) (frames : List Framed) (old mid : State) (new_frames : List Framed) (new : State) (first second : Telling) (was conts : List Cont) (result : Hand)
+    → ((m : Move) → Reads known c past now mid new second (after t m new_frames new) → Reads known c past now old new first (after t m new_frames new))
+    → ((m : Move) → Goes t taken ended pending frames mid new_frames new m → Goes t more ended pending frames old new_frames new m)
+    → Turned t known c past now taken ended pending weight frames mid new_frames new second was conts result → Turned t known c past now more ended pending weight frames old new_frames new first was conts result
+turned_before t known c past now taken more ended pending weight frames old mid new_frames new first second was conts result reads goes x =
+    record { move = x.move; took = x.took; reads = reads x.move x.reads; goes = goes x.move x.goes; light = x.light }

@@ -8,6 +8,7 @@ use Rattle.hb_tree.specs.Table.{Table}
 use Rattle.hb_tree.specs.Nodes.{items_of}
 use Rattle.hb_tree.specs.TreeAt.{tree_at, forest_at, IsExprAt, IsBlockAt}
 use Rattle.hb_tree.specs.Tree.{Tree, TBlock, Forest, NoTree, Trees, IsBlock}
+use Rattle.hb_eval.specs.declared.state.Hand.TheVariants as hands
 use Rattle.hb_eval.specs.declared.value.Value.TheVariants as value
 use Rattle.hb_eval.specs.declared.cont.Cont.{Cont}
 use Rattle.hb_eval.specs.declared.cont.Cont.TheVariants as cont
@@ -51,7 +52,7 @@ item_next w block at is id d e h read =
     ∙ ap (λ f. Trees (tree_at w.program id.0) (trees_from (at + 1) f)) (sym items)
 
 pub item_starts : (w : World) (block : NodeId) (at : ℕ) (is : List NodeId) (id d : NodeId) (old new : State) (move : Move)
-    → new ≡ record old { at = id } → move ≡ record { under = None; push = Some (cont.Items block (at + 1)); gives = false; stops = false }
+    → new ≡ record old { at = id } → move ≡ record { under = None; push = Some (cont.Items block (at + 1)); hand = hands.Begins }
     → IsBlockAt w.program block.0 → tree_at w.program block.0 ≡ TBlock block.0 (forest_at (tree_at w.program) is) → All (λ i. IsExprAt w.program i.0) is
     → at < length is → id ≡ get_or is at d
     → Starts (λ w room s. items_from w room (tree_at w.program block.0) at old.acc s) old new move w
@@ -81,7 +82,7 @@ then_done (Halt e id s) = refl
 
 -- the last item comes next
 pub item_last : (w : World) (block : NodeId) (at : ℕ) (is : List NodeId) (id d : NodeId) (old new : State) (move : Move)
-    → new ≡ record old { at = id } → move ≡ record { under = None; push = None; gives = false; stops = false }
+    → new ≡ record old { at = id } → move ≡ record { under = None; push = None; hand = hands.Begins }
     → tree_at w.program block.0 ≡ TBlock block.0 (forest_at (tree_at w.program) is) → All (λ i. IsExprAt w.program i.0) is
     → at < length is → length is ≤ at + 1 → id ≡ get_or is at d
     → Starts (λ w room s. items_from w room (tree_at w.program block.0) at old.acc s) old new move w
@@ -106,7 +107,7 @@ item_last w block at is id d old new move after mv e all h end read =
     })
 
 pub items_end : (w : World) (block : NodeId) (at : ℕ) (is : List NodeId) (old new : State) (move : Move)
-    → new ≡ old → move ≡ record { under = None; push = None; gives = true; stops = false }
+    → new ≡ old → move ≡ record { under = None; push = None; hand = hands.Gives }
     → tree_at w.program block.0 ≡ TBlock block.0 (forest_at (tree_at w.program) is) → length is ≤ at
     → Starts (λ w room s. items_from w room (tree_at w.program block.0) at old.acc s) old new move w
 items_end w block at is old new move after mv e h =
@@ -149,14 +150,14 @@ loop_turn w keeps room c b x s =
 -- a loop's block begins
 pub looped : (w : World) (c b : NodeId) (old new : State) (m move : Move) → IsFine w.program (cont.Test c b) → is_false old.acc ≡ false
     → Starts (λ w room. meaning w room b.0) old new m w → m.under ≡ None → move ≡ record m { under = Some (cont.Turn c b) }
-    → Moves (Some (cont.Test c b)) true old new move w
+    → Moves (Some (cont.Test c b)) hands.Gives old new move w
 unfolding then_do
 looped w c b old new m move fine test starts flat is =
     rw is (record {
       same = λ ks fs read journal.
           ap (λ (x : Bool). resume w ks (reverse old.operands.items) fs (if x then Done value.Nil (st_of old read journal) else then_do (meaning w (room fs) b.0 (st_of old read journal)) (λ x s. loop (meaning w (room fs) c.0) (meaning w (room fs) b.0) s))) test
           ∙ starts.same (cont.Turn c b ∷ ks) fs read journal
-          ∙ ap (λ (u : Option Cont). stands w (onto m.push (onto u (cont.Turn c b ∷ ks))) fs m.gives m.stops new read journal) flat;
+          ∙ ap (λ (u : Option Cont). stands w (onto m.push (onto u (cont.Turn c b ∷ ks))) fs m.hand new read journal) flat;
       keeps = record {
         under = fine;
         push = starts.keeps.push;
@@ -184,7 +185,7 @@ kept t k old new move none k0 = record {
 
 -- the first of two blocks begins, or the second
 pub first_chosen : (w : World) (a b : NodeId) (old new : State) (move : Move) → is_false old.acc ≡ false
-    → Starts (λ w room. meaning w room a.0) old new move w → Moves (Some (cont.Choose a b)) true old new move w
+    → Starts (λ w room. meaning w room a.0) old new move w → Moves (Some (cont.Choose a b)) hands.Gives old new move w
 unfolding then_do
 first_chosen w a b old new move test starts = record {
   same = λ ks fs read journal.
@@ -194,7 +195,7 @@ first_chosen w a b old new move test starts = record {
 }
 
 pub second_chosen : (w : World) (a b : NodeId) (old new : State) (move : Move) → is_false old.acc ≡ true
-    → Starts (λ w room. meaning w room b.0) old new move w → Moves (Some (cont.Choose a b)) true old new move w
+    → Starts (λ w room. meaning w room b.0) old new move w → Moves (Some (cont.Choose a b)) hands.Gives old new move w
 unfolding then_do
 second_chosen w a b old new move test starts = record {
   same = λ ks fs read journal.
@@ -205,7 +206,7 @@ second_chosen w a b old new move test starts = record {
 
 -- the items of a block go on
 pub items_on : (w : World) (block : NodeId) (at : ℕ) (old new : State) (move : Move)
-    → Starts (λ w room s. items_from w room (tree_at w.program block.0) at old.acc s) old new move w → Moves (Some (cont.Items block at)) true old new move w
+    → Starts (λ w room s. items_from w room (tree_at w.program block.0) at old.acc s) old new move w → Moves (Some (cont.Items block at)) hands.Gives old new move w
 unfolding then_do
 items_on w block at old new move starts = record {
   same = λ ks fs read journal. starts.same ks fs read journal;
@@ -234,8 +235,8 @@ block_starts w block old new move is starts = record {
 
 -- a loop's condition begins again
 pub turned : (w : World) → ((r : ℕ) → KeepsFuel (w.calls r)) → (c b : NodeId) (old new : State) (move : Move) → IsFine w.program (cont.Turn c b)
-    → new ≡ record old { at = c } → move ≡ record { under = None; push = Some (cont.Test c b); gives = false; stops = false }
-    → Moves (Some (cont.Turn c b)) true old new move w
+    → new ≡ record old { at = c } → move ≡ record { under = None; push = Some (cont.Test c b); hand = hands.Begins }
+    → Moves (Some (cont.Turn c b)) hands.Gives old new move w
 unfolding then_do
 turned w keeps c b old new move fine after mv =
     rw (after, mv) (record {

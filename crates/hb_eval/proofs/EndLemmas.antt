@@ -1,6 +1,6 @@
 -- Frames that end, and stops that pass.
 use Rattle.std.proofs.Common.{◌≡◌, ℕ, zero, suc, ◌+◌, ◌-◌, List, [], ◌∷◌, ◌++◌, length, take, drop, Some, None, refl, sym, ap, ◌∙◌, subst, arith, append-nil, length-append, eq-eqb, Vec, Global}
-use Rattle.std.specs.Prelude.{reverse, Bool, true, false, cond, count_by}
+use Rattle.std.specs.Prelude.{reverse, Bool, false, cond, count_by}
 use Rattle.std.proofs.lemmas.List.Sums.{sum_by-cons}
 use Rattle.std.specs.List.{AllByRecursion}
 use Rattle.std.proofs.lemmas.List.{length-take-le, length-reverse}
@@ -17,6 +17,7 @@ use Rattle.hb_tables.specs.declared.entry.Act.TheVariants.{Free}
 use Rattle.hb_tables.specs.Frames.{acts}
 use Rattle.hb_call.specs.Held.{frees}
 use Rattle.hb_call.specs.Reading.{freed}
+use Rattle.hb_eval.specs.declared.state.Hand.TheVariants as hands
 use Rattle.hb_eval.specs.declared.value.Value.{Value}
 use Rattle.hb_eval.specs.declared.stop.Stop.{Stop}
 use Rattle.hb_eval.specs.declared.cont.Cont.{Cont}
@@ -111,7 +112,7 @@ leaves_lowers t c was now old_frames old new_frames new l = go l.frame new.vars 
 
 -- a frame ends with a value
 pub leaves_reads : (known : List Name) (t : Table) (c : ℕ) (was now : List Entry) (old_frames : List Framed) (old : State) (new_frames : List Framed) (new : State) (move : Move)
-    → Leaves c was now old_frames old new_frames new → move ≡ record { under = None; push = None; gives = true; stops = false }
+    → Leaves c was now old_frames old new_frames new → move ≡ record { under = None; push = None; hand = hands.Gives }
     → Reads known c was now old new (with_value t cont.Frame old_frames old) (after t move new_frames new)
 leaves_reads known t c was now old_frames old new_frames new move l mv = go l.frame new.vars l.frames l.vars l.grows l.state
   where
@@ -131,12 +132,12 @@ leaves_reads known t c was now old_frames old new_frames new move l mv = go l.fr
         })
 
 -- a frame ends with a stop
-pub leaves_stop : (known : List Name) (t : Table) (g : Bool) (c : ℕ) (was now : List Entry) (old_frames : List Framed) (old : State) (new_frames : List Framed) (new : State)
+pub leaves_stop : (known : List Name) (t : Table) (c : ℕ) (was now : List Entry) (old_frames : List Framed) (old : State) (new_frames : List Framed) (new : State)
     → Leaves c was now old_frames old new_frames new
-    → Reads known c was now old new (with_stop t (cont.Frame ∷ []) g old_frames old) (with_stop t [] g new_frames new)
-leaves_stop known t g c was now old_frames old new_frames new l = go l.frame new.vars l.frames l.vars l.grows l.state
+    → Reads known c was now old new (with_stop t (cont.Frame ∷ []) old_frames old) (with_stop t [] new_frames new)
+leaves_stop known t c was now old_frames old new_frames new l = go l.frame new.vars l.frames l.vars l.grows l.state
   where
-    go : (f : Framed) (vs : Vec (NameId × Value) Global) → old_frames ≡ new_frames ++ f ∷ [] → vs.items ≡ take old.base old.vars.items → acts c now ≡ acts c was ++ frees f.frame.q f.frame.held.items → new ≡ record old { vars = vs; base = f.base; class = f.class } → Reads known c was now old new (with_stop t (cont.Frame ∷ []) g old_frames old) (with_stop t [] g new_frames new)
+    go : (f : Framed) (vs : Vec (NameId × Value) Global) → old_frames ≡ new_frames ++ f ∷ [] → vs.items ≡ take old.base old.vars.items → acts c now ≡ acts c was ++ frees f.frame.q f.frame.held.items → new ≡ record old { vars = vs; base = f.base; class = f.class } → Reads known c was now old new (with_stop t (cont.Frame ∷ []) old_frames old) (with_stop t [] new_frames new)
     go f vs fs vars grows state =
         let top = top_view old_frames new_frames f old vs.items fs vars in
         let fr = frees f.frame.q f.frame.held.items in
@@ -164,10 +165,10 @@ no_frame cont.Frame ne = absurd (ne refl)
 no_frame _ ne = refl
 
 -- a stop passes operands alone
-pub passes_operands : (known : List Name) (t : Table) (g : Bool) (c : ℕ) (log : List Entry) (k : Cont) (frames : List Framed) (old new : State) (ops : Vec Value Global) (m : ℕ)
+pub passes_operands : (known : List Name) (t : Table) (c : ℕ) (log : List Entry) (k : Cont) (frames : List Framed) (old new : State) (ops : Vec Value Global) (m : ℕ)
     → (k ≡ cont.Frame → ⊥) → new ≡ record old { operands = ops } → ops.items ≡ take m old.operands.items → m + need k ≡ length old.operands.items
-    → Reads known c log log old new (with_stop t (k ∷ []) g frames old) (with_stop t [] g frames new)
-passes_operands known t g c log k frames old new ops m ne after cut size =
+    → Reads known c log log old new (with_stop t (k ∷ []) frames old) (with_stop t [] frames new)
+passes_operands known t c log k frames old new ops m ne after cut size =
     let none_left : frames_in k ≡ 0 = no_frame k ne in
     let rv : List Value = reverse old.operands.items in
     let len : length (take (need k) rv) ≡ need k = length-take-le (need k) rv (omega (arith, length-reverse old.operands.items)) in
@@ -185,7 +186,7 @@ passes_operands known t g c log k frames old new ops m ne after cut size =
     })
 
 -- a frame that ended gives a value
-pub lowers_goes : (t : Table) (old_frames : List Framed) (old : State) (new_frames : List Framed) (new : State) (move : Move) → Lowers t 0 1 old_frames old new_frames new → move ≡ record { under = None; push = None; gives = true; stops = false } → Goes t 0 1 0 old_frames old new_frames new move
+pub lowers_goes : (t : Table) (old_frames : List Framed) (old : State) (new_frames : List Framed) (new : State) (move : Move) → Lowers t 0 1 old_frames old new_frames new → move ≡ record { under = None; push = None; hand = hands.Gives } → Goes t 0 1 0 old_frames old new_frames new move
 lowers_goes t old_frames old new_frames new move l mv =
     rw mv (record {
       under = tt;

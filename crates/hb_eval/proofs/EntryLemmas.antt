@@ -30,6 +30,7 @@ use Rattle.hb_call.specs.declared.frame.Frame.{Frame}
 use Rattle.hb_call.specs.Held.{frees, stands}
 use Rattle.hb_call.specs.Reading.{Read, Called, FullAt, call_of}
 use Rattle.hb_call.specs.Entering.{Asks, IsDecidedOf, IsRefused, IsFullLater}
+use Rattle.hb_eval.specs.declared.state.Hand.TheVariants as hands
 use Rattle.hb_eval.specs.declared.value.Value.{Value}
 use Rattle.hb_eval.specs.declared.stop.Stop.{Stop}
 use Rattle.hb_eval.specs.declared.stop.Stop.TheVariants as stop
@@ -58,7 +59,7 @@ use Rattle.hb_eval.proofs.CallLemmas.{call_reads, call_full, body_runs, decided_
 
 -- a call that stops and reads nothing
 pub call_halts : (known : List Name) (t : Table) (c : ℕ) (log : List Entry) (id : NodeId) (m at : ℕ) (d : Value) (e : Stop) (frames : List Framed) (old new : State) (ops : Vec Value Global) (move : Move)
-    → at < length old.operands.items → ops.items ≡ take at old.operands.items → new ≡ record old { operands = ops; stop = e; at = id } → move ≡ record { under = None; push = None; gives = false; stops = true }
+    → at < length old.operands.items → ops.items ≡ take at old.operands.items → new ≡ record old { operands = ops; stop = e; at = id } → move ≡ record { under = None; push = None; hand = hands.Stops }
     → ((names : List Name) → IsPrefix known names → length names ≤ NAMES_MAX → (vs : List Value) (s : St) → call_in t names (room (frames_at frames old)) id.0 (get_or old.operands.items at d) m vs s ≡ Halt e id.0 s)
     → Reads known c log log old new (with_operands t at (λ w room vs s. calling w room id.0 m vs s) frames old) (after t move frames new)
 call_halts known t c log id m at d e frames old new ops move lt cut is mv h =
@@ -82,7 +83,7 @@ some_room frames x few = λ none. absurd (omega (arith, none, few, frames_length
 
 -- a call whose own name has no place
 pub call_full_once : (known : List Name) (t : Table) (c : ℕ) (log : List Entry) (id : NodeId) (m at : ℕ) (d : Value) (cl : ClassId) (frames : List Framed) (old new : State) (ops : Vec Value Global) (move : Move)
-    → at < length old.operands.items → ops.items ≡ take at old.operands.items → new ≡ record old { operands = ops; stop = stop.Full; at = id } → move ≡ record { under = None; push = None; gives = false; stops = true }
+    → at < length old.operands.items → ops.items ≡ take at old.operands.items → new ≡ record old { operands = ops; stop = stop.Full; at = id } → move ≡ record { under = None; push = None; hand = hands.Stops }
     → length frames < 4096 → receiver (get_or old.operands.items at d) ≡ Ok cl → IsFull known (cl.0, bytes_at t.names m)
     → Reads known c log log old new (with_operands t at (λ w room vs s. calling w room id.0 m vs s) frames old) (after t move frames new)
 call_full_once known t c log id m at d cl frames old new ops move lt cut is mv few rec full =
@@ -182,7 +183,7 @@ module _ (known : List Name) (t : Table) (door : Fixed) (q : CallNo) (cl : Class
 
   -- it was refused
   pub call_refused : (v : Verdict) (e : Stop) (was now : List Entry) (new : State) (ops : Vec Value Global) (move : Move) → refusal v ≡ Some e → IsRefused asks known was now v → ops.items ≡ take at old.operands.items
-      → new ≡ record old { operands = ops; made = old.made + 1; decided = old.decided + 1; stop = e; at = id } → move ≡ record { under = None; push = None; gives = false; stops = true }
+      → new ≡ record old { operands = ops; made = old.made + 1; decided = old.decided + 1; stop = e; at = id } → move ≡ record { under = None; push = None; hand = hands.Stops }
       → Reads known door.caller was now old new (with_operands t at (λ w room vs s. calling w room id.0 m vs s) frames old) (after t move frames new)
   call_refused v e was now new ops move why h cut is mv =
       let dec = decision_of asks known was h.mid h.key v h.site h.held h.decided in
@@ -210,7 +211,7 @@ module _ (known : List Name) (t : Table) (door : Fixed) (q : CallNo) (cl : Class
 
   -- it found the list of names full while its body was checked
   pub call_full_later : (was now : List Entry) (new : State) (ops : Vec Value Global) (move : Move) → IsFullLater asks known was now → ops.items ≡ take at old.operands.items
-      → new ≡ record old { operands = ops; made = old.made + 1; stop = stop.Full; at = id } → move ≡ record { under = None; push = None; gives = false; stops = true }
+      → new ≡ record old { operands = ops; made = old.made + 1; stop = stop.Full; at = id } → move ≡ record { under = None; push = None; hand = hands.Stops }
       → Reads known door.caller was now old new (with_operands t at (λ w room vs s. calling w room id.0 m vs s) frames old) (after t move frames new)
   call_full_later was now new ops move h cut is mv =
       let mid : State = record old { operands = ops; made = old.made + 1; stop = stop.Full; at = id } in
@@ -262,5 +263,5 @@ body_starts known t c log f cl b at base d frames new_frames old new ops vars m 
         ∙ ap (λ v. resume w ks (reverse (take at all)) fs (F (meaning w (room (F ∷ fs)) b.block.0 (record s { vars = v; self = Some cl })))) (sym high)
         ∙ ap (λ l. resume w ks (reverse l) fs (F (meaning w (room (F ∷ fs)) b.block.0 (st_of mid rd journal)))) (sym cut)
         ∙ st.same (cont.Frame ∷ ks) (F ∷ fs) rd journal
-        ∙ ap (λ (u : Option Cont). stands_on w (onto m.push (onto u (cont.Frame ∷ ks))) (F ∷ fs) m.gives m.stops new rd journal) flat
-        ∙ ap (λ g. stands_on w (onto m.push (cont.Frame ∷ ks)) g m.gives m.stops new rd journal) (sym stay)))
+        ∙ ap (λ (u : Option Cont). stands_on w (onto m.push (onto u (cont.Frame ∷ ks))) (F ∷ fs) m.hand new rd journal) flat
+        ∙ ap (λ g. stands_on w (onto m.push (cont.Frame ∷ ks)) g m.hand new rd journal) (sym stay)))

@@ -25,9 +25,12 @@ use Rattle.hb_tables.specs.Standing.{Stand, standing}
 use Rattle.hb_tables.specs.Frames.{acts}
 use Rattle.hb_tables.specs.Names.{name_of}
 use Rattle.hb_tables.proofs.StandingLemmas.{standing_stays}
-use Rattle.std.specs.Prelude.{Result, Ok, Err, IfOk, OnOk}
+use Rattle.std.specs.Prelude.{Result, Ok, IfOk, OnOk}
+use Rattle.std.proofs.lemmas.Result.{IfOk-weaker}
 use Rattle.std.specs.declared.alloc.AllocError.{AllocError}
-use Rattle.hb_eval.specs.declared.state.Move.{Move}
+use Rattle.hb_eval.specs.declared.state.Hand.{Hand}
+use Rattle.hb_eval.specs.declared.cont.Cont.{Cont}
+use Rattle.hb_eval.specs.declared.framed.Framed.{Framed}
 use Rattle.hb_tables.specs.declared.entry.By.{By}
 use Rattle.hb_tables.specs.Answers.{Fixed}
 use Rattle.hb_tables.specs.History.{entry}
@@ -51,7 +54,7 @@ use Rattle.hb_call.specs.declared.share.Share.{Share}
 use Rattle.hb_call.specs.Sharing.{Collects, CollectsFew, CollectsOne, Found, FoundUses, collected}
 use Rattle.hb_eval.specs.declared.state.State.{State}
 use Rattle.hb_eval.specs.Runs.{is_entered}
-use Rattle.hb_eval.specs.Turns.{Reads, Telling}
+use Rattle.hb_eval.specs.Turns.{Reads, Telling, after, Turned}
 use Rattle.hb_eval.specs.Gathering.{Gathers, GathersCall, GathersOne, Shares, TakesLast, TakesOne}
 
 abbrev site_numbered : ℕ → BodySite
@@ -148,10 +151,11 @@ shares_quiet t names known c past now x y told telling old new r same left = rec
       (gathers_none t names (acts c past) r.more (collected old) (let e = r.tallies.fresh in omega (arith, e, same)));
 }
 
--- the same of an answer that is no error
-pub shares_if : (t : Table) (names known : List Name) (c : ℕ) (past now : List Entry) (x y : State) (told : Telling) (telling : Move → Telling) (r : Result Move AllocError) (s : Share) → y.fresh ≡ x.fresh → IfOk r (λ m. Reads known c past now x y told (telling m)) → OnOk r (Shares t names c past now s s)
-shares_if t names known c past now x y told telling (Ok m) s same h = shares_quiet t names known c past now x y told (telling m) s s h same refl
-shares_if t names known c past now x y told telling (Err e) s same h = tt
+-- the same of a turn that went well
+pub shares_turned : (t : Table) (known : List Name) (c : ℕ) (past now : List Entry) (taken ended pending weight : ℕ) (fx : List Framed) (x : State) (fy : List Framed) (y : State) (told : Telling) (was conts : List Cont) (r : Result Hand AllocError) (s : Share)
+    → y.fresh ≡ x.fresh → IfOk r (Turned t known c past now taken ended pending weight fx x fy y told was conts) → OnOk r (Shares t known c past now s s)
+shares_turned t known c past now taken ended pending weight fx x fy y told was conts r s same turned =
+    IfOk-weaker r _ _ (λ h a. shares_quiet t known known c past now x y told (after t a.move fy y) s s a.reads same refl) turned
 
 -- ── a call that enters on a fresh check ──
 

@@ -1,5 +1,5 @@
 -- What moves keep of the stacks.
-use Rattle.std.proofs.Common.{◌≡◌, ℕ, zero, suc, ◌+◌, ◌-◌, ◌<◌, ◌≤◌, List, [], ◌∷◌, ◌++◌, length, get_or, take, drop, Option, Some, None, true, false, refl, sym, ap, ◌∙◌, subst, arith, length-append, Vec, Global}
+use Rattle.std.proofs.Common.{◌≡◌, ℕ, zero, suc, ◌+◌, ◌-◌, ◌<◌, ◌≤◌, List, [], ◌∷◌, ◌++◌, length, get_or, take, drop, Option, Some, None, refl, sym, ap, ◌∙◌, subst, arith, length-append, Vec, Global}
 use Rattle.std.specs.Prelude.{reverse}
 use Rattle.std.specs.List.{AllByRecursion}
 use Rattle.std.proofs.lemmas.List.{length-take-le}
@@ -12,6 +12,8 @@ use Rattle.hb_tree.specs.TreeAt.{tree_at, IsExprAt}
 use Rattle.hb_tree.specs.Nodes.{params_of}
 use Rattle.hb_tree.proofs.Lists.{each_append}
 use Rattle.hb_call.specs.declared.frame.Frame.{Frame}
+use Rattle.hb_eval.specs.declared.state.Hand.{Hand}
+use Rattle.hb_eval.specs.declared.state.Hand.TheVariants as hands
 use Rattle.hb_eval.specs.declared.value.Value.{Value}
 use Rattle.hb_eval.specs.declared.stop.Stop.{Stop}
 use Rattle.hb_eval.specs.declared.cont.Cont.{Cont}
@@ -21,7 +23,6 @@ use Rattle.hb_eval.specs.declared.state.State.{State}
 use Rattle.hb_eval.specs.declared.state.Move.{Move}
 use Rattle.hb_eval.specs.Values.{IsKnown}
 use Rattle.hb_eval.specs.Calls.{bindings}
-use Rattle.std.proofs.Common.{Bool}
 use Rattle.hb_eval.specs.State.{St, Answer}
 use Rattle.hb_eval.specs.Calls.{call_in}
 use Rattle.hb_eval.specs.Steps.{InEach, Starts, Moves}
@@ -58,8 +59,8 @@ no_end (Some _) h = refl
 pub keeps_of : (t : Table) (before : World → ℕ → St → Answer) (old new : State) (move : Move) → InEach t (Starts before old new move) → Keeps t None old new move
 keeps_of t before old new move h = (h [] (call_in t []) (calls_keep t [])).keeps
 
-pub keeps_moves : (t : Table) (front : Option Cont) (gives : Bool) (old new : State) (move : Move) → InEach t (Moves front gives old new move) → Keeps t front old new move
-keeps_moves t front gives old new move h = (h [] (call_in t []) (calls_keep t [])).keeps
+pub keeps_moves : (t : Table) (front : Option Cont) (before : Hand) (old new : State) (move : Move) → InEach t (Moves front before old new move) → Keeps t front old new move
+keeps_moves t front before old new move h = (h [] (call_in t []) (calls_keep t [])).keeps
 
 -- what is neither part of a call nor the end of a frame
 pub plain_goes : (t : Table) (front : Option Cont) (frames : List Framed) (old new : State) (move : Move) → Keeps t front old new move → IsPlain move.under → IsPlain move.push → new.begun ≡ old.begun → SameCalls old new → (AreKnown t old → AreKnown t new)
@@ -102,7 +103,7 @@ begun_goes t frames old new move k under push begun same known =
 
 -- a call that stops
 pub halted_goes : (t : Table) (at made decided : ℕ) (e : Stop) (id : NodeId) (frames : List Framed) (old new : State) (ops : Vec Value Global) (move : Move) → at < length old.operands.items → ops.items ≡ take at old.operands.items
-    → new ≡ record old { operands = ops; made = made; decided = decided; stop = e; at = id } → move ≡ record { under = None; push = None; gives = false; stops = true }
+    → new ≡ record old { operands = ops; made = made; decided = decided; stop = e; at = id } → move ≡ record { under = None; push = None; hand = hands.Stops }
     → made ≤ old.made + 1 → (old.decided ≤ old.made → decided ≤ made) → old.decided ≤ decided
     → Goes t (length old.operands.items - at) 0 1 frames old frames new move
 halted_goes t at made decided e id frames old new ops move lt cut is mv most fits more =
@@ -124,7 +125,7 @@ halted_goes t at made decided e id frames old new ops move lt cut is mv most fit
     })
 
 -- an argument begins
-pub argument_goes : (t : Table) (id : NodeId) (n : ℕ) (a : NodeId) (frames : List Framed) (old new : State) (move : Move) → new ≡ record old { at = a } → move ≡ record { under = None; push = Some (cont.Arguments id n); gives = false; stops = false }
+pub argument_goes : (t : Table) (id : NodeId) (n : ℕ) (a : NodeId) (frames : List Framed) (old new : State) (move : Move) → new ≡ record old { at = a } → move ≡ record { under = None; push = Some (cont.Arguments id n); hand = hands.Begins }
     → IsExprAt t id.0 → IsCall (tree_at t id.0) → n < arguments_in (tree_at t id.0) → n < 4 → IsExprAt t a.0 → n < length old.operands.items
     → Goes t (suc n) 0 1 frames old frames new move
 argument_goes t id n a frames old new move is mv ex is_call few four expr there =

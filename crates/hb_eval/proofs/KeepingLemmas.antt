@@ -20,7 +20,6 @@ use Rattle.hb_tables.proofs.FrontLemmas.{adds_act}
 use Rattle.hb_tables.proofs.DeskLemmas.{adds_prefix}
 use Rattle.hb_call.specs.GrowthLaws.{prefix_itself}
 use Rattle.hb_call.specs.Own.{changes_kept}
-use Rattle.hb_call.specs.OwnCache.{IsOwnCache}
 use Rattle.hb_call.specs.OwnLaws.{own_stays, own_retype, own_define}
 use Rattle.hb_eval.specs.Entries.{asked_again}
 use Rattle.hb_eval.specs.Keeping.{KeepsOwn, StaysOwn}
@@ -51,10 +50,6 @@ keeps_named t c names known was asked name past now old new longer is stays own 
 -- the names are known, and none was asked for
 pub keeps_known : (t : Table) (c : ℕ) (names known was asked : List Name) (log : List Entry) (cache : List (Option Kept)) → IsPrefix names known → asked ≡ was → KeepsOwn t c names known was asked log log cache cache
 keeps_known t c names known was asked log cache longer is = own_named t c names known was asked log cache longer (subst (IsPrefix was) (sym is) (prefix_itself was))
-
--- what is kept is the same
-pub keeps_same : (t : Table) (c : ℕ) (names asked : List Name) (log : List Entry) (old new : List (Option Kept)) → new ≡ old → KeepsOwn t c names names asked asked log log old new
-keeps_same t c names asked log old new e own = subst (IsOwnCache t names asked c log) (sym e) own
 
 -- the name of a call was asked for once more, or that was in vain
 pub keeps_again : (placed : Bool) (t : Table) (c : ℕ) (names known was asked : List Name) (name : Name) (log : List Entry) (cache : List (Option Kept)) → IsPrefix names known → asked ≡ asked_again placed was name → KeepsOwn t c names known was asked log log cache cache

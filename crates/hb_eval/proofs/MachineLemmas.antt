@@ -1,5 +1,5 @@
 -- What a move does to a machine.
-use Rattle.std.proofs.Common.{◌≡◌, ℕ, ◌+◌, ◌<◌, List, Option, Some, None, Bool, true, false, Ok, Err, refl, sym, ap, ◌∙◌, subst, arith, Vec, Global}
+use Rattle.std.proofs.Common.{◌≡◌, ℕ, ◌+◌, ◌<◌, List, Option, Some, None, Ok, Err, refl, sym, ap, ◌∙◌, arith}
 use Rattle.std.specs.Prelude.{Result, OnOk}
 use Rattle.std.specs.List.{AllByRecursion}
 use Rattle.hb_tree.specs.Table.{Table}
@@ -8,26 +8,26 @@ use Rattle.hb_tables.specs.declared.entry.Act.{Act}
 use Rattle.hb_eval.specs.declared.cont.Cont.{Cont}
 use Rattle.hb_eval.specs.declared.framed.Framed.{Framed}
 use Rattle.hb_eval.specs.declared.state.State.{State}
+use Rattle.hb_eval.specs.declared.state.Hand.{Hand}
+use Rattle.hb_eval.specs.declared.state.Hand.TheVariants as hands
 use Rattle.hb_eval.specs.declared.state.Move.{Move}
 use Rattle.hb_eval.specs.Calls.{call_in}
 use Rattle.hb_eval.specs.Machine.{Frames, need, frames_in, stands}
-use Rattle.hb_eval.specs.Steps.{onto, need_of, InEach, Moves, IsFine, IsFinePush, IsFineStep, IsLight, weigh_one, weigh_push}
+use Rattle.hb_eval.specs.Steps.{onto, need_of, InEach, Moves, IsFine, IsFinePush, IsLight, weigh_one, weigh_push}
 use Rattle.hb_eval.specs.Stacks.{frames_at, ended_of, calls_in, calls_of}
 use Rattle.hb_eval.specs.Ends.{Lowers}
 use Rattle.hb_eval.specs.Turns.{Goes, after, stands_at, world}
-use Rattle.hb_eval.specs.declared.machine.Machine.{Machine}
-use Rattle.hb_types.specs.declared.ids.CallerId.{CallerId}
-use Rattle.hb_eval.specs.Machines.{SameHand, sum_over, weigh}
+use Rattle.hb_eval.specs.Machines.{sum_over, weigh}
 use Rattle.hb_eval.proofs.CallFuelLemmas.{calls_keep}
 use Rattle.hb_eval.proofs.TurnLemmas.{frames_stay}
 
 -- a move that reads nothing, behind what is to be done or at a beginning
-pub moves_same : (t : Table) (front : Option Cont) (gives : Bool) (frames : List Framed) (old new : State) (m : Move) → InEach t (Moves front gives old new m)
-    → (names : List Name) (ks : List Cont) (read : List (ℕ × Act)) (journal : List Act) → stands_at t names (onto front ks) frames gives false old read journal ≡ after t m frames new names ks read journal
-moves_same t front gives frames old new m h names ks read journal =
+pub moves_same : (t : Table) (front : Option Cont) (before : Hand) (frames : List Framed) (old new : State) (m : Move) → InEach t (Moves front before old new m)
+    → (names : List Name) (ks : List Cont) (read : List (ℕ × Act)) (journal : List Act) → stands_at t names (onto front ks) frames before old read journal ≡ after t m frames new names ks read journal
+moves_same t front before frames old new m h names ks read journal =
     let w = h names (call_in t names) (calls_keep t names) in
     w.same ks (frames_at frames old) read journal
-    ∙ ap (λ (fs : Frames). stands (world t names) (onto m.push (onto m.under ks)) fs m.gives m.stops new read journal) (sym (frames_stay frames old new w.keeps.below))
+    ∙ ap (λ (fs : Frames). stands (world t names) (onto m.push (onto m.under ks)) fs m.hand new read journal) (sym (frames_stay frames old new w.keeps.below))
 
 -- what a move leaves to do takes what it takes, and what the rest does
 onto_sum : (f : Cont → ℕ) (g : Option Cont → ℕ) → g None ≡ 0 → ((k : Cont) → g (Some k) ≡ f k) → (k : Option Cont) (ks : List Cont) → sum_over f (onto k ks) ≡ g k + sum_over f ks
@@ -51,23 +51,23 @@ pub fine_move : (t : Table) (m : Move) (ks : List Cont) → IsFinePush t m.push 
 fine_move t m ks push under all = fine_onto t m.push (onto m.under ks) push (fine_onto t m.under ks under all)
 
 -- a turn that leaves less to do
-pub falls_by : (gives stops : Bool) (k : Cont) (push under : Option Cont) (ks : List Cont) → IsLight gives stops push → weigh_push under < weigh_one k → weigh gives stops (onto push (onto under ks)) < 1 + (weigh_one k + sum_over weigh_one ks)
-falls_by false false k push under ks light h = omega arith
-falls_by true b k push under ks light h =
+pub falls_by : (hand : Hand) (k : Cont) (push under : Option Cont) (ks : List Cont) → IsLight hand push → weigh_push under < weigh_one k → weigh hand (onto push (onto under ks)) < 1 + (weigh_one k + sum_over weigh_one ks)
+falls_by hands.Begins k push under ks light h = omega arith
+falls_by hands.Gives k push under ks light h =
     let e : sum_over weigh_one (onto push (onto under ks)) ≡ weigh_push under + sum_over weigh_one ks = ap (λ p. sum_over weigh_one (onto p (onto under ks))) light ∙ onto_sum weigh_one weigh_push refl (λ k. refl) under ks in
     omega (arith, e, h)
-falls_by false true k push under ks light h =
+falls_by hands.Stops k push under ks light h =
     let e : sum_over weigh_one (onto push (onto under ks)) ≡ weigh_push under + sum_over weigh_one ks = ap (λ p. sum_over weigh_one (onto p (onto under ks))) light ∙ onto_sum weigh_one weigh_push refl (λ k. refl) under ks in
     omega (arith, e, h)
 
 -- a stop passes as a move would
-pub lowers_moves : (t : Table) (k : Cont) (gives : Bool) (old_frames : List Framed) (old : State) (new_frames : List Framed) (new : State) → Lowers t (need k) (frames_in k) old_frames old new_frames new
-    → Goes t (need k) (frames_in k) (calls_in k) old_frames old new_frames new (record { under = None; push = None; gives = gives; stops = true })
-lowers_moves t k gives old_frames old new_frames new h = record {
+pub lowers_moves : (t : Table) (k : Cont) (old_frames : List Framed) (old : State) (new_frames : List Framed) (new : State) → Lowers t (need k) (frames_in k) old_frames old new_frames new
+    → Goes t (need k) (frames_in k) (calls_in k) old_frames old new_frames new (record { under = None; push = None; hand = hands.Stops })
+lowers_moves t k old_frames old new_frames new h = record {
   under = tt;
   push = tt;
-  step = step_of gives;
-  light = light_of gives;
+  step = tt;
+  light = refl;
   operands = omega (arith, h.operands);
   frames = omega (arith, h.frames);
   calls = omega (arith, h.steady.begun, h.steady.calls.made);
@@ -76,25 +76,7 @@ lowers_moves t k gives old_frames old new_frames new h = record {
   based = h.based;
   known = h.known;
 }
-  where
-    step_of : (g : Bool) → IsFineStep t g true new
-    step_of true = tt
-    step_of false = tt
-
-    light_of : (g : Bool) → IsLight g true None
-    light_of true = refl
-    light_of false = refl
 
 pub on_ok_map : {A E : Type 0} {P Q : Type 0} (r : Result A E) → (P → Q) → OnOk r P → OnOk r Q
 on_ok_map (Ok x) f p = f p
 on_ok_map (Err e) f p = tt
-
-rebuilt : (m : Machine) (c : CallerId) (x : State) (fr : Vec Framed Global) → m.caller ≡ c → m.state ≡ x → m.frames ≡ fr → record { caller = c; state = x; conts = m.conts; frames = fr; gives = m.gives; stops = m.stops } ≡ m
-rebuilt m c x fr caller state frames =
-    ap (λ (q : CallerId). record { caller = q; state = x; conts = m.conts; frames = fr; gives = m.gives; stops = m.stops }) (sym caller)
-    ∙ ap (λ (q : State). record { caller = m.caller; state = q; conts = m.conts; frames = fr; gives = m.gives; stops = m.stops }) (sym state)
-    ∙ ap (λ (q : Vec Framed Global). record { caller = m.caller; state = m.state; conts = m.conts; frames = q; gives = m.gives; stops = m.stops }) (sym frames)
-
--- what holds where the state and the frames are those
-pub on_moved : (P : Machine → Type 0) (mid new : Machine) → SameHand mid new → P (record mid { conts = new.conts; gives = new.gives; stops = new.stops }) → P new
-on_moved P mid new h p = subst P (rebuilt new mid.caller mid.state mid.frames h.caller h.state h.frames) p

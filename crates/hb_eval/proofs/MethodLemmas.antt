@@ -1,5 +1,5 @@
 -- What a `def` or a `type` comes to, by the answer of its table.
-use Rattle.std.proofs.Common.{◌≡◌, ◌≤◌, ℕ, List, [], ◌∷◌, ◌++◌, length, length-append, append-nil, Option, Some, None, true, false, refl, sym, ap, ◌∙◌, subst, arith, eq-eqb}
+use Rattle.std.proofs.Common.{◌≡◌, ◌≤◌, ℕ, List, [], ◌∷◌, ◌++◌, length, length-append, append-nil, Option, Some, None, refl, sym, ap, ◌∙◌, subst, arith, eq-eqb}
 use Rattle.std.specs.Prelude.{Result, Ok, Err, reverse, if◌then◌else◌}
 use mathlib.Core.List.{IsPrefix}
 use Rattle.hb_types.specs.declared.ids.NodeId.{NodeId}
@@ -10,6 +10,7 @@ use Rattle.hb_names.proofs.NameLemmas.{place-append}
 use Rattle.hb_tables.specs.declared.entry.Entry.{Entry}
 use Rattle.hb_tables.specs.declared.entry.Act.{Act}
 use Rattle.hb_tables.specs.Frames.{acts}
+use Rattle.hb_eval.specs.declared.state.Hand.TheVariants as hands
 use Rattle.hb_eval.specs.declared.value.Value.{Value}
 use Rattle.hb_eval.specs.declared.stop.Stop.{Stop}
 use Rattle.hb_eval.specs.declared.stop.Stop.TheVariants as stop
@@ -25,7 +26,7 @@ stays : (known names : List Name) (name : Name) (key : ℕ) → IsPrefix known n
 stays known names name key p found = subst (λ l. place l name ≡ Some key) p.1 (place-append known p.0 name key found)
 
 pub given : (known : List Name) (c : ℕ) (was now : List Entry) (id : NodeId) (name : Name) (key : ℕ) (asked : ℕ → Act → Option (Result Value Stop)) (v : Value) (old new : State) (move : Move)
-    → place known name ≡ Some key → Adds c was now (asked key) (Ok v) → new ≡ record old { acc = v } → move ≡ record { under = None; push = None; gives = true; stops = false }
+    → place known name ≡ Some key → Adds c was now (asked key) (Ok v) → new ≡ record old { acc = v } → move ≡ record { under = None; push = None; hand = hands.Gives }
     → ActsOn known c was now (λ w s. keyed w.names id.0 name s (λ key. reads (asked key) id.0 s)) old new move
 given known c was now id name key asked v old new move found adds after mv =
     rw (after, mv) (record {
@@ -40,7 +41,7 @@ given known c was now id name key asked v old new move found adds after mv =
     })
 
 pub stopped : (known : List Name) (c : ℕ) (was now : List Entry) (id : NodeId) (name : Name) (key : ℕ) (asked : ℕ → Act → Option (Result Value Stop)) (e : Stop) (old new : State) (move : Move)
-    → place known name ≡ Some key → Adds c was now (asked key) (Err e) → new ≡ record old { stop = e; at = id } → move ≡ record { under = None; push = None; gives = false; stops = true }
+    → place known name ≡ Some key → Adds c was now (asked key) (Err e) → new ≡ record old { stop = e; at = id } → move ≡ record { under = None; push = None; hand = hands.Stops }
     → ActsOn known c was now (λ w s. keyed w.names id.0 name s (λ key. reads (asked key) id.0 s)) old new move
 stopped known c was now id name key asked e old new move found adds after mv =
     rw (after, mv) (record {
@@ -65,7 +66,7 @@ whole known names p full few =
     sym p.1 ∙ ap (λ l. known ++ l) none ∙ append-nil known
 
 pub full : (known : List Name) (c : ℕ) (was now : List Entry) (id : NodeId) (name : Name) (asked : ℕ → Act → Option (Result Value Stop)) (old new : State) (move : Move)
-    → IsFull known name → acts c now ≡ acts c was → new ≡ record old { stop = stop.Full; at = id } → move ≡ record { under = None; push = None; gives = false; stops = true }
+    → IsFull known name → acts c now ≡ acts c was → new ≡ record old { stop = stop.Full; at = id } → move ≡ record { under = None; push = None; hand = hands.Stops }
     → ActsOn known c was now (λ w s. keyed w.names id.0 name s (λ key. reads (asked key) id.0 s)) old new move
 full known c was now id name asked old new move is none after mv =
     rw (after, mv) (record {

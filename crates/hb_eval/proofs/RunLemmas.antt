@@ -1,5 +1,5 @@
 -- A machine and the run of its block.
-use Rattle.std.proofs.Common.{Option, ◌≡◌, ℕ, ◌+◌, ◌≤◌, List, [], ◌∷◌, ◌++◌, length, map, Some, None, Bool, true, false, cond, refl, sym, ap, ◌∙◌, arith, append_assoc, append-nil, Vec, Global}
+use Rattle.std.proofs.Common.{Option, ◌≡◌, ℕ, ◌+◌, ◌≤◌, List, [], ◌∷◌, ◌++◌, length, map, Some, None, Bool, cond, refl, sym, ap, ◌∙◌, arith, append_assoc, append-nil, Vec, Global}
 use Rattle.std.specs.Prelude.{reverse, count_by}
 use Rattle.std.proofs.lemmas.List.Sums.{sum_by-append, sum_by-cons}
 use Rattle.std.proofs.lemmas.List.{map-append}
@@ -17,6 +17,8 @@ use Rattle.hb_cache.specs.declared.kept.Kept.{Kept}
 use Rattle.hb_tables.specs.declared.entry.Act.{Act}
 use Rattle.hb_tables.specs.declared.entry.By.TheVariants as by
 use Rattle.hb_tables.specs.Frames.{acts}
+use Rattle.hb_eval.specs.declared.state.Hand.{Hand}
+use Rattle.hb_eval.specs.declared.state.Hand.TheVariants as hands
 use Rattle.hb_eval.specs.declared.value.Value.{Value}
 use Rattle.hb_eval.specs.declared.value.Value.TheVariants as value
 use Rattle.hb_eval.specs.declared.stop.Stop.{Stop}
@@ -85,7 +87,7 @@ block_items t names call _ s h = absurd h
 -- the machine of a block, before its first expression
 new_answer : (t : Table) (names : List Name) (block : NodeId) (e : Stop) (cache : List (Option Kept)) (steps : ℕ) (ops : Vec Value Global) (vars : Vec (NameId × Value) Global) (out : Vec ℕ Global) (journal : List Act)
     → vars.items ≡ [] → out.items ≡ []
-    → stands_at t names (cont.Items block 0 ∷ []) [] true false (record { operands = ops; vars = vars; output = out; acc = value.Nil; at = block; stop = e; base = 0; class = None; fuel = steps; begun = 0; made = 0; decided = 0; own = 0; fresh = 0; cache = cache }) [] journal
+    → stands_at t names (cont.Items block 0 ∷ []) [] hands.Gives (record { operands = ops; vars = vars; output = out; acc = value.Nil; at = block; stop = e; base = 0; class = None; fuel = steps; begun = 0; made = 0; decided = 0; own = 0; fresh = 0; cache = cache }) [] journal
     ≡ ev_items t names (call_in t names 4096) (trees_from 0 (items_in (tree_at t block.0))) value.Nil (start steps journal)
 unfolding then_do
 new_answer t names block e cache steps ops vars out journal no_vars no_out =
@@ -94,40 +96,39 @@ new_answer t names block e cache steps ops vars out journal no_vars no_out =
 
 pub new_stands : (t : Table) (known : List Name) (block : NodeId) (caller : CallerId) (e : Stop) (cache : List (Option Kept)) (steps : ℕ) (ops : Vec Value Global) (vars : Vec (NameId × Value) Global) (out : Vec ℕ Global) (conts : Vec Cont Global) (frames : Vec Framed Global)
     → vars.items ≡ [] → out.items ≡ [] → conts.items ≡ cont.Items block 0 ∷ [] → frames.items ≡ [] → IsBlockAt t block.0
-    → StandsFor t known block.0 steps [] (record { caller = caller; state = record { operands = ops; vars = vars; output = out; acc = value.Nil; at = block; stop = e; base = 0; class = None; fuel = steps; begun = 0; made = 0; decided = 0; own = 0; fresh = 0; cache = cache }; conts = conts; frames = frames; gives = true; stops = false })
+    → StandsFor t known block.0 steps [] (record { caller = caller; state = record { operands = ops; vars = vars; output = out; acc = value.Nil; at = block; stop = e; base = 0; class = None; fuel = steps; begun = 0; made = 0; decided = 0; own = 0; fresh = 0; cache = cache }; conts = conts; frames = frames; hand = hands.Gives })
 new_stands t known block caller e cache steps ops vars out conts frames no_vars no_out one no_frames is = record {
   same = λ names p few journal.
       let x : State = record { operands = ops; vars = vars; output = out; acc = value.Nil; at = block; stop = e; base = 0; class = None; fuel = steps; begun = 0; made = 0; decided = 0; own = 0; fresh = 0; cache = cache } in
       block_items t names (call_in t names 4096) (tree_at t block.0) (start steps journal) is.1
       ∙ sym (new_answer t names block e cache steps ops vars out journal no_vars no_out)
-      ∙ ap (λ l. stands_at t names (reverse l) [] true false x [] journal) (sym one)
-      ∙ ap (λ l. stands_at t names (reverse conts.items) l true false x [] journal) (sym no_frames);
+      ∙ ap (λ l. stands_at t names (reverse l) [] hands.Gives x [] journal) (sym one)
+      ∙ ap (λ l. stands_at t names (reverse conts.items) l hands.Gives x [] journal) (sym no_frames);
   counts = record { decided = refl; own = refl; fresh = refl; shared = refl };
 }
 
-ended_run : (t : Table) (names : List Name) (g s : Bool) (ks : List Cont) (frames : List Framed) (x : State) (done : List (ℕ × Act)) → IsLast g s ks
-    → run_of (stands_at t names [] frames g s x done []) ≡ Some (record { outcome = outcome_of s x.stop x.at x.acc; output = x.output.items; acts = done })
-ended_run t names false false ks frames x done h = absurd h
-ended_run t names true false ks frames x done h = refl
-ended_run t names true true ks frames x done h = refl
-ended_run t names false true ks frames x done h = refl
+ended_run : (t : Table) (names : List Name) (hand : Hand) (ks : List Cont) (frames : List Framed) (x : State) (done : List (ℕ × Act)) → IsLast hand ks
+    → run_of (stands_at t names [] frames hand x done []) ≡ Some (record { outcome = outcome_of hand x.stop x.at x.acc; output = x.output.items; acts = done })
+ended_run t names hands.Begins ks frames x done h = absurd h
+ended_run t names hands.Gives ks frames x done h = refl
+ended_run t names hands.Stops ks frames x done h = refl
 
 -- what the run of an ended machine came to
 pub finished : (t : Table) (known names : List Name) (block steps : ℕ) (done : List (ℕ × Act)) (m : Machine) → HasEnded m → StandsFor t known block steps done m → IsPrefix known names → length names ≤ NAMES_MAX
     → (run : Run) × (script_run t names (call_in t names 4096) block steps (map (λ e. e.1) done) ≡ Some run)
-    × (record { caller = m.caller.0; outcome = outcome_of m.stops m.state.stop m.state.at m.state.acc; output = m.state.output.items; calls = m.state.decided; own = m.state.own; shared = 0; fresh = m.state.fresh } ≡ told m.caller.0 run)
+    × (record { caller = m.caller.0; outcome = outcome_of m.hand m.state.stop m.state.at m.state.acc; output = m.state.output.items; calls = m.state.decided; own = m.state.own; shared = 0; fresh = m.state.fresh } ≡ told m.caller.0 run)
 finished t known names block steps done m ended s p few =
     let x = m.state in
-    let none = last_none m.gives m.stops m.conts.items ended in
+    let none = last_none m.hand m.conts.items ended in
     let first : ℕ × Act → Act = λ e. e.1 in
-    let run : Run = record { outcome = outcome_of m.stops x.stop x.at x.acc; output = x.output.items; acts = done } in
+    let run : Run = record { outcome = outcome_of m.hand x.stop x.at x.acc; output = x.output.items; acts = done } in
     let is : script_run t names (call_in t names 4096) block steps (map first done) ≡ Some run =
     ap (λ l. run_of (ev t names (call_in t names 4096) (tree_at t block) (start steps l))) (sym (append-nil (map first done)))
     ∙ ap run_of (s.same names p few [])
-    ∙ ap (λ l. run_of (stands_at t names (reverse l) m.frames.items m.gives m.stops x done [])) none
-    ∙ ended_run t names m.gives m.stops m.conts.items m.frames.items x done ended in
+    ∙ ap (λ l. run_of (stands_at t names (reverse l) m.frames.items m.hand x done [])) none
+    ∙ ended_run t names m.hand m.conts.items m.frames.items x done ended in
     (run, is, go x.decided x.own x.fresh s.counts.decided s.counts.own s.counts.fresh)
   where
     go : (decided own fresh : ℕ) → decided ≡ count_by (λ (e : ℕ × Act). is_call e.1) done → own ≡ count_by (λ (e : ℕ × Act). is_entered by.Own e.1) done → fresh ≡ count_by (λ (e : ℕ × Act). is_entered by.Fresh e.1) done
-        → record { caller = m.caller.0; outcome = outcome_of m.stops m.state.stop m.state.at m.state.acc; output = m.state.output.items; calls = decided; own = own; shared = 0; fresh = fresh } ≡ told m.caller.0 (record { outcome = outcome_of m.stops m.state.stop m.state.at m.state.acc; output = m.state.output.items; acts = done })
+        → record { caller = m.caller.0; outcome = outcome_of m.hand m.state.stop m.state.at m.state.acc; output = m.state.output.items; calls = decided; own = own; shared = 0; fresh = fresh } ≡ told m.caller.0 (record { outcome = outcome_of m.hand m.state.stop m.state.at m.state.acc; output = m.state.output.items; acts = done })
     go decided own fresh d o f = rw (d, o, f, s.counts.shared) refl

@@ -1,5 +1,5 @@
 -- What stays over one step stays over several.
-use Rattle.std.proofs.Common.{List, [], refl, ◌∙◌, subst, append-nil}
+use Rattle.std.proofs.Common.{◌≡◌, List, [], refl, ◌∙◌, subst, append-nil}
 use mathlib.Core.List.{IsPrefix}
 use Rattle.hb_names.specs.Names.{Name}
 use Rattle.hb_tables.specs.declared.entry.Entry.{Entry}
@@ -29,4 +29,15 @@ stays_on a b c x y z m n o p q = record {
   named = prefix_on m n o p.named q.named;
   few = λ h. q.few (p.few h);
   differ = λ h. q.differ (p.differ h);
+}
+
+-- no name comes
+pub stays_apart : (door later : Fixed) (was now : List Entry) (names : List Name) → later ≡ door → IsPrefix was now → (IsLegal door.limit was → IsLegal door.limit now) → Stays door later was now names names
+stays_apart door later was now names fixed kept legal = record {
+  fixed = fixed;
+  kept = kept;
+  legal = legal;
+  named = prefix_itself names;
+  few = λ h. h;
+  differ = λ h. h;
 }

@@ -1,5 +1,5 @@
 -- How frames end, and how a stop passes what is left to do.
-use Rattle.std.specs.Prelude.{◌≡◌, ℕ, ◌+◌, List, [], ◌∷◌, ◌++◌, length, take, Bool, true}
+use Rattle.std.specs.Prelude.{◌≡◌, ℕ, ◌+◌, List, [], ◌∷◌, ◌++◌, length, take}
 use Rattle.hb_tree.specs.Table.{Table}
 use Rattle.hb_tables.specs.declared.entry.Entry.{Entry}
 use Rattle.hb_tables.specs.Frames.{acts}
@@ -7,6 +7,7 @@ use Rattle.hb_call.specs.Held.{frees}
 use Rattle.hb_eval.specs.declared.cont.Cont.{Cont}
 use Rattle.hb_eval.specs.declared.framed.Framed.{Framed}
 use Rattle.hb_eval.specs.declared.state.State.{State}
+use Rattle.hb_eval.specs.declared.state.Hand.TheVariants as hands
 use Rattle.hb_eval.specs.Steps.{Steady}
 use Rattle.hb_eval.specs.Stacks.{IsBased, AllKnown}
 use Rattle.hb_eval.specs.Turns.{Telling, stands_at}
@@ -20,8 +21,8 @@ pub record Leaves (c : ℕ) (was now : List Entry) (old_frames : List Framed) (o
   pub vars : new.vars.items ≡ take old.base old.vars.items
 
 -- a stop, where this is left to do
-abbrev pub with_stop : Table → List Cont → (gives : Bool) → List Framed → State → Telling
-with_stop t on gives frames x names ks read journal = stands_at t names (on ++ ks) frames gives true x read journal
+abbrev pub with_stop : Table → List Cont → List Framed → State → Telling
+with_stop t on frames x names ks read journal = stands_at t names (on ++ ks) frames hands.Stops x read journal
 
 -- so many operands and frames less
 pub record Lowers (t : Table) (taken ended : ℕ) (old_frames : List Framed) (old : State) (new_frames : List Framed) (new : State) : Type 0 where

@@ -1,11 +1,12 @@
 -- What is left to do, as a function on answers.
 --
 -- Contracts see each stack with its last first, and a live frame as what it does with the answer of its body.
-use Rattle.std.specs.Prelude.{ℕ, zero, suc, ◌+◌, ◌-◌, List, [], ◌∷◌, ◌++◌, length, take, drop, reverse, Bool, true, false}
+use Rattle.std.specs.Prelude.{ℕ, zero, suc, ◌+◌, ◌-◌, List, [], ◌∷◌, ◌++◌, length, take, drop, reverse}
 use Rattle.hb_tree.specs.declared.node.Op.{Op}
 use Rattle.hb_tree.specs.Table.{Table}
 use Rattle.hb_tree.specs.TreeAt.{tree_at}
-use Rattle.hb_tree.specs.Tree.{Tree, TCall, TDefComputed, TDeclareComputed, TBlock, Forest, NoTree, Trees}
+use Rattle.hb_tree.specs.Canon.{bytes_at}
+use Rattle.hb_tree.specs.Tree.{Tree, TCall, TDef, TDefComputed, TDeclare, TDeclareComputed, TBlock, Forest, NoTree, Trees}
 use Rattle.hb_names.specs.Names.{Name}
 use Rattle.hb_tables.specs.declared.entry.Act.{Act}
 use Rattle.hb_eval.specs.declared.value.Value.{Value}
@@ -13,6 +14,8 @@ use Rattle.hb_eval.specs.declared.value.Value.TheVariants as value
 use Rattle.hb_eval.specs.declared.cont.Cont.{Cont}
 use Rattle.hb_eval.specs.declared.cont.Cont.TheVariants as cont
 use Rattle.hb_eval.specs.declared.state.State.{State}
+use Rattle.hb_eval.specs.declared.state.Hand.{Hand}
+use Rattle.hb_eval.specs.declared.state.Hand.TheVariants as hands
 use Rattle.hb_eval.specs.Values.{is_false}
 use Rattle.hb_eval.specs.Printing.{shown}
 use Rattle.hb_eval.specs.Operators.{operate}
@@ -56,8 +59,10 @@ arguments_from w room (TCall id r m args) at (v ∷ vs) s =
     ev_arguments w.program w.names (w.calls room) (trees_from at args) vs (λ us s. w.calls room id v m us s) s
 arguments_from w room _ at vs s = Lost
 
--- a `def` or a `type` whose name has this value
+-- a `def` or a `type`, whose name is plain or has this value
 abbrev pub method_named : World → Tree → Value → St → Answer
+method_named w (TDef id c m site b) v s = define w.names id (c, bytes_at w.program.names m) site s
+method_named w (TDeclare id c m site asks) v s = declare w.names id asks (c, bytes_at w.program.names m) site s
 method_named w (TDefComputed id c e site b) v s = named id v s (λ bytes. define w.names id (c, bytes) site s)
 method_named w (TDeclareComputed id c e site asks) v s = named id v s (λ bytes. declare w.names id asks (c, bytes) site s)
 method_named w _ v s = Lost
@@ -122,12 +127,12 @@ st_of x read journal = record {
 }
 
 -- what comes next: a value, a stop, or an expression
-abbrev pub answer_of : World → (room : ℕ) → (gives stops : Bool) → State → St → Answer
-answer_of w room gives true x s = Halt x.stop x.at.0 s
-answer_of w room true false x s = Done x.acc s
-answer_of w room false false x s = meaning w room x.at.0 s
+abbrev pub answer_of : World → (room : ℕ) → Hand → State → St → Answer
+answer_of w room hands.Stops x s = Halt x.stop x.at.0 s
+answer_of w room hands.Gives x s = Done x.acc s
+answer_of w room hands.Begins x s = meaning w room x.at.0 s
 
 -- the answer of the whole run, where these are left to do
-abbrev pub stands : World → List Cont → Frames → (gives stops : Bool) → State → List (ℕ × Act) → List Act → Answer
-stands w ks fs gives stops x read journal =
-    resume w ks (reverse x.operands.items) fs (answer_of w (room fs) gives stops x (st_of x read journal))
+abbrev pub stands : World → List Cont → Frames → Hand → State → List (ℕ × Act) → List Act → Answer
+stands w ks fs hand x read journal =
+    resume w ks (reverse x.operands.items) fs (answer_of w (room fs) hand x (st_of x read journal))

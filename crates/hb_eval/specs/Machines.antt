@@ -1,5 +1,5 @@
 -- A machine between two beginnings: for what it stands, and what its stacks have.
-use Rattle.std.specs.Prelude.{◌≡◌, ℕ, ◌+◌, ◌^◌, ◌<◌, ◌≤◌, ◌⊎◌, List, [], ◌∷◌, ◌++◌, length, map, reverse, count_by, Bool, true, false}
+use Rattle.std.specs.Prelude.{◌≡◌, ℕ, ◌+◌, ◌^◌, ◌<◌, ◌≤◌, ◌⊎◌, List, [], ◌∷◌, ◌++◌, length, map, reverse, count_by}
 use Rattle.std.specs.List.{AllByRecursion}
 use mathlib.Core.List.{IsPrefix}
 use Rattle.hb_tree.specs.Table.{Table}
@@ -14,7 +14,8 @@ use Rattle.hb_call.specs.OwnCache.{IsOwnCache}
 use Rattle.hb_eval.specs.declared.cont.Cont.{Cont}
 use Rattle.hb_eval.specs.declared.cont.Cont.TheVariants as cont
 use Rattle.hb_eval.specs.declared.state.State.{State}
-use Rattle.hb_eval.specs.declared.state.Move.{Move}
+use Rattle.hb_eval.specs.declared.state.Hand.{Hand}
+use Rattle.hb_eval.specs.declared.state.Hand.TheVariants as hands
 use Rattle.hb_types.specs.declared.ids.NodeId.{NodeId}
 use Rattle.hb_eval.specs.declared.value.Value.{Value}
 use Rattle.hb_eval.specs.declared.stop.Stop.{Stop}
@@ -28,13 +29,13 @@ use Rattle.hb_eval.specs.Meaning.{ev}
 use Rattle.hb_eval.specs.Calls.{call_in}
 use Rattle.hb_eval.specs.Runs.{start, is_call, is_entered}
 use Rattle.hb_eval.specs.Machine.{need, frames_in}
-use Rattle.hb_eval.specs.Steps.{onto, IsFine, IsFineStep, IsFed, Steady, weigh_one}
+use Rattle.hb_eval.specs.Steps.{IsFine, IsFineStep, IsFed, Steady, weigh_one}
 use Rattle.hb_eval.specs.Stacks.{IsBased, AllKnown, calls_in}
 use Rattle.hb_eval.specs.Turns.{Telling, stands_at, Reads}
 
 -- the answer of the whole run, where these acts were read and those are left
 abbrev pub answer : Table → List Name → Machine → List (ℕ × Act) → List Act → Answer
-answer t names m read journal = stands_at t names (reverse m.conts.items) m.frames.items m.gives m.stops m.state read journal
+answer t names m read journal = stands_at t names (reverse m.conts.items) m.frames.items m.hand m.state read journal
 
 -- the same, with nothing left to do below
 abbrev pub of_machine : Table → Machine → Telling
@@ -46,14 +47,14 @@ sum_over f [] = 0
 sum_over f (k ∷ ks) = f k + sum_over f ks
 
 -- time is left for what may still begin
-abbrev pub IsTimed : (stops : Bool) → State → Type 0
-IsTimed false x = x.begun + x.fuel < 2 ^ 32
-IsTimed true x = Unit {0}
+abbrev pub IsTimed : Hand → State → Type 0
+IsTimed hands.Stops x = Unit {0}
+IsTimed _ x = x.begun + x.fuel < 2 ^ 32
 
 -- The stacks have what is left to do needs.
 pub record IsFineMachine (t : Table) (m : Machine) : Type 0 where
   pub conts : AllByRecursion (IsFine t) (reverse m.conts.items)
-  pub step : IsFineStep t m.gives m.stops m.state
+  pub step : IsFineStep t m.hand m.state
   pub operands : length m.state.operands.items ≡ sum_over need (reverse m.conts.items)
   pub frames : length m.frames.items ≡ sum_over frames_in (reverse m.conts.items)
   pub calls : m.state.made + sum_over calls_in (reverse m.conts.items) ≤ m.state.begun
@@ -61,7 +62,7 @@ pub record IsFineMachine (t : Table) (m : Machine) : Type 0 where
   pub entered : m.state.own + m.state.fresh ≤ m.state.decided
   pub based : IsBased m.frames.items m.state
   pub known : AllKnown t m.frames.items m.state
-  pub time : IsTimed m.stops m.state
+  pub time : IsTimed m.hand m.state
 
 -- The calls among the acts are counted.
 pub record Counts (x : State) (done : List (ℕ × Act)) : Type 0 where
@@ -77,55 +78,51 @@ pub record StandsFor (t : Table) (known : List Name) (block steps : ℕ) (done :
   pub counts : Counts m.state done
 
 -- there is a value or a stop, and nothing is left to do with it
-abbrev pub IsLast : (gives stops : Bool) → List Cont → Type 0
-IsLast false false ks = ⊥
-IsLast _ _ ks = ks ≡ []
+abbrev pub IsLast : Hand → List Cont → Type 0
+IsLast hands.Begins ks = ⊥
+IsLast _ ks = ks ≡ []
 
 -- the run has ended
 abbrev pub HasEnded : Machine → Type 0
-HasEnded m = IsLast m.gives m.stops m.conts.items
+HasEnded m = IsLast m.hand m.conts.items
 
 -- the items of a block are all that is to be done
 abbrev pub IsOneBlock : List Cont → Type 0
 IsOneBlock (cont.Items block at ∷ []) = Unit {0}
 IsOneBlock _ = ⊥
 
-abbrev pub IsNext : (gives stops : Bool) → (begun : ℕ) → List Cont → Type 0
-IsNext false false begun ks = Unit {0}
-IsNext true false begun ks = (begun ≡ 0) × IsOneBlock ks
-IsNext _ true begun ks = ⊥
+abbrev pub IsNext : Hand → (begun : ℕ) → List Cont → Type 0
+IsNext hands.Begins begun ks = Unit {0}
+IsNext hands.Gives begun ks = (begun ≡ 0) × IsOneBlock ks
+IsNext hands.Stops begun ks = ⊥
 
 -- the run goes on: an expression is to begin, or it has not begun at all
 abbrev pub IsGoing : Machine → Type 0
-IsGoing m = IsNext m.gives m.stops m.state.begun m.conts.items
+IsGoing m = IsNext m.hand m.state.begun m.conts.items
 
 -- an expression is to begin, or nothing is left to do
-abbrev pub IsRest : (gives stops : Bool) → List Cont → Type 0
-IsRest false false ks = Unit {0}
-IsRest _ _ ks = ks ≡ []
+abbrev pub IsRest : Hand → List Cont → Type 0
+IsRest hands.Begins ks = Unit {0}
+IsRest _ ks = ks ≡ []
 
 abbrev pub IsAtRest : Machine → Type 0
-IsAtRest m = IsRest m.gives m.stops m.conts.items
+IsAtRest m = IsRest m.hand m.conts.items
 
-abbrev pub weigh : (gives stops : Bool) → List Cont → ℕ
-weigh false false ks = 0
-weigh _ _ ks = 1 + sum_over weigh_one ks
+-- an expression is to begin, the script stops, or nothing is left to do
+abbrev pub IsSettledAt : Hand → List Cont → Type 0
+IsSettledAt hands.Gives ks = ks ≡ []
+IsSettledAt _ ks = Unit {0}
+
+abbrev pub IsSettled : Machine → Type 0
+IsSettled m = IsSettledAt m.hand m.conts.items
+
+abbrev pub weigh : Hand → List Cont → ℕ
+weigh hands.Begins ks = 0
+weigh _ ks = 1 + sum_over weigh_one ks
 
 -- how many turns are left before an expression begins
 abbrev pub turns_left : Machine → ℕ
-turns_left m = weigh m.gives m.stops (reverse m.conts.items)
-
--- what a move says was done
-pub record MovedOn (old new : Machine) (move : Move) : Type 0 where
-  pub gives : new.gives ≡ move.gives
-  pub stops : new.stops ≡ move.stops
-  pub conts : reverse new.conts.items ≡ onto move.push (onto move.under (reverse old.conts.items))
-
--- the state and the frames are the same
-pub record SameHand (old new : Machine) : Type 0 where
-  pub state : new.state ≡ old.state
-  pub frames : new.frames ≡ old.frames
-  pub caller : new.caller ≡ old.caller
+turns_left m = weigh m.hand (reverse m.conts.items)
 
 -- Some acts come, and no expression begins.
 pub record Carries (t : Table) (c : ℕ) (known was asked : List Name) (past now : List Entry) (old new : Machine) : Type 0 where
@@ -133,7 +130,7 @@ pub record Carries (t : Table) (c : ℕ) (known was asked : List Name) (past now
   pub fine : IsFineMachine t new
   pub begun : new.state.begun ≡ old.state.begun
   pub fuel : new.state.fuel ≡ old.state.fuel
-  pub stops : old.stops ≡ true → new.stops ≡ true
+  pub stops : old.hand ≡ hands.Stops → new.hand ≡ hands.Stops
   pub grown : Grown t c known was asked past now
   pub own : IsOwnCache t known asked c now new.state.cache
 
@@ -142,7 +139,7 @@ pub record Begins (t : Table) (c : ℕ) (known was asked : List Name) (past now 
   pub reads : Reads known c past now old.state new.state (of_machine t old) (of_machine t new)
   pub fine : IsFineMachine t new
   pub begun : new.state.begun ≡ old.state.begun + 1
-  pub fed : IsFed new.stops old.state.fuel new.state.fuel
+  pub fed : IsFed new.hand old.state.fuel new.state.fuel
   pub grown : Grown t c known was asked past now
   pub own : IsOwnCache t known asked c now new.state.cache
 
@@ -152,7 +149,7 @@ pub record Opens (t : Table) (old new : Machine) : Type 0 where
   pub fine : IsFineMachine t new
   pub steady : Steady old.state new.state
   pub rest : IsAtRest new
-  pub first : old.gives ≡ false → (new.gives ≡ false) × (new.stops ≡ false)
+  pub first : old.hand ≡ hands.Begins → new.hand ≡ hands.Begins
 
 -- Some acts come, and the machine is fine behind them.
 pub record Advances (t : Table) (c : ℕ) (known was asked : List Name) (past now : List Entry) (old new : Machine) : Type 0 where
@@ -162,14 +159,14 @@ pub record Advances (t : Table) (c : ℕ) (known was asked : List Name) (past no
   pub own : IsOwnCache t known asked c now new.state.cache
 
 -- how a run ended
-abbrev pub outcome_of : (stops : Bool) → Stop → NodeId → Value → Outcome
-outcome_of true e id v = outcome.Stopped e id
-outcome_of false e id v = outcome.Done v
+abbrev pub outcome_of : Hand → Stop → NodeId → Value → Outcome
+outcome_of hands.Stops e id v = outcome.Stopped e id
+outcome_of _ e id v = outcome.Done v
 
 -- whether a machine goes on
-abbrev pub turn_of : (gives stops : Bool) → Turn
-turn_of false false = turn.More
-turn_of _ _ = turn.Ended
+abbrev pub turn_of : Hand → Turn
+turn_of hands.Begins = turn.More
+turn_of _ = turn.Ended
 
 -- with less fuel than before an expression is to begin, or nothing is left to do
 abbrev pub Turns : Turn → (old new : Machine) → Type 0
@@ -179,4 +176,4 @@ Turns turn.Ended old new = HasEnded new
 -- one expression began, or the block has none
 abbrev pub HasBegun : Turn → (old new : Machine) → Type 0
 HasBegun turn.More old new = new.state.begun ≡ old.state.begun + 1
-HasBegun turn.Ended old new = (new.state.begun ≡ old.state.begun + 1) ⊎ ((new.state.begun ≡ old.state.begun) × (old.gives ≡ true))
+HasBegun turn.Ended old new = (new.state.begun ≡ old.state.begun + 1) ⊎ ((new.state.begun ≡ old.state.begun) × (old.hand ≡ hands.Gives))

@@ -1,5 +1,5 @@
 -- What a script has in hand, and what an expression comes to.
-use Rattle.std.specs.Prelude.{ℕ, ◌+◌, ◌-◌, List, [], ◌∷◌, ◌++◌, Option, Some, None, Result, Ok, Err, nat_eq, if◌then◌else◌}
+use Rattle.std.specs.Prelude.{◌≡◌, ℕ, Bool, true, false, ◌+◌, ◌-◌, List, [], ◌∷◌, ◌++◌, Option, Some, None, Result, Ok, Err, nat_eq, if◌then◌else◌}
 use Rattle.hb_types.specs.declared.ids.NameId.{NameId}
 use Rattle.hb_types.specs.declared.ids.ClassId.{ClassId}
 use Rattle.hb_tables.specs.declared.entry.Act.{Act}
@@ -50,6 +50,11 @@ begin id s go =
 abbrev pub value_at : Bindings → ℕ → Option Value
 value_at [] x = None
 value_at (b ∷ bs) x = if nat_eq b.0.0 x then Some b.1 else value_at bs x
+
+-- the value of a variable came in hand, or it has none
+abbrev pub IsFetched : Bool → Option Value → (old new : Value) → Type 0
+IsFetched true found old new = found ≡ Some new
+IsFetched false found old new = (found ≡ None) × (new ≡ old)
 
 -- the variable has this value, and the others those that they had; a new one stands last
 abbrev pub bind : Bindings → ℕ → Value → Bindings

@@ -1,5 +1,5 @@
 -- What a step of the machine comes to.
-use Rattle.std.specs.Prelude.{◌≡◌, ℕ, suc, ◌+◌, ◌<◌, ◌≤◌, ◌⊎◌, List, ◌∷◌, length, take, reverse, Bool, true, false, Option, Some, None, IfSome}
+use Rattle.std.specs.Prelude.{◌≡◌, ℕ, suc, ◌+◌, ◌<◌, ◌≤◌, ◌⊎◌, List, ◌∷◌, length, take, reverse, Option, Some, None, IfSome}
 use Rattle.std.specs.List.{AllByRecursion}
 use Rattle.hb_tree.specs.Table.{Table}
 use Rattle.hb_tree.specs.TreeAt.{tree_at, IsExprAt, IsBlockAt}
@@ -9,6 +9,8 @@ use Rattle.hb_tables.specs.declared.entry.Act.{Act}
 use Rattle.hb_eval.specs.declared.cont.Cont.{Cont}
 use Rattle.hb_eval.specs.declared.cont.Cont.TheVariants as cont
 use Rattle.hb_eval.specs.declared.state.State.{State}
+use Rattle.hb_eval.specs.declared.state.Hand.{Hand}
+use Rattle.hb_eval.specs.declared.state.Hand.TheVariants as hands
 use Rattle.hb_eval.specs.declared.state.Move.{Move}
 use Rattle.hb_eval.specs.Values.{IsKnown}
 use Rattle.hb_eval.specs.State.{St, Answer}
@@ -37,11 +39,11 @@ IsComputed (TDefComputed id c e site b) = Unit {0}
 IsComputed (TDeclareComputed id c e site asks) = Unit {0}
 IsComputed _ = ⊥
 
--- it is no `def` or `type` with a plain name, which asks a table as it begins
-abbrev pub AsksNoTable : Tree → Type 0
-AsksNoTable (TDef id c m site b) = ⊥
-AsksNoTable (TDeclare id c m site asks) = ⊥
-AsksNoTable _ = Unit {0}
+-- it is a `def` or a `type`
+abbrev pub IsOfMethod : Tree → Type 0
+IsOfMethod (TDef id c m site b) = Unit {0}
+IsOfMethod (TDeclare id c m site asks) = Unit {0}
+IsOfMethod e = IsComputed e
 
 abbrev pub forest_size : Forest → ℕ
 forest_size NoTree = 0
@@ -60,7 +62,7 @@ IsFine t (cont.Turn c b) = IsExprAt t c.0 × IsBlockAt t b.0
 IsFine t (cont.Items block at) = IsBlockAt t block.0
 IsFine t (cont.Receiver id) = IsExprAt t id.0 × IsCall (tree_at t id.0)
 IsFine t (cont.Arguments id n) = IsExprAt t id.0 × IsCall (tree_at t id.0) × (n < arguments_in (tree_at t id.0)) × (n < 4)
-IsFine t (cont.Method id) = IsExprAt t id.0 × IsComputed (tree_at t id.0)
+IsFine t (cont.Method id) = IsExprAt t id.0 × IsOfMethod (tree_at t id.0)
 IsFine t _ = Unit {0}
 
 abbrev pub IsFinePush : Table → Option Cont → Type 0
@@ -68,14 +70,14 @@ IsFinePush t None = Unit {0}
 IsFinePush t (Some k) = IsFine t k
 
 -- what begins next is an expression
-abbrev pub IsFineStep : Table → (gives stops : Bool) → State → Type 0
-IsFineStep t false false x = IsExprAt t x.at.0
-IsFineStep t _ _ x = Unit {0}
+abbrev pub IsFineStep : Table → Hand → State → Type 0
+IsFineStep t hands.Begins x = IsExprAt t x.at.0
+IsFineStep t _ x = Unit {0}
 
 -- with a value or a stop, nothing is to be done first
-abbrev pub IsLight : (gives stops : Bool) → Option Cont → Type 0
-IsLight false false k = Unit {0}
-IsLight _ _ k = k ≡ None
+abbrev pub IsLight : Hand → Option Cont → Type 0
+IsLight hands.Begins k = Unit {0}
+IsLight _ k = k ≡ None
 
 -- how many turns it may take before an expression begins
 abbrev pub weigh_one : Cont → ℕ
@@ -101,9 +103,9 @@ HasNoFrame (Some cont.Frame) = ⊥
 HasNoFrame _ = Unit {0}
 
 -- one unit of fuel was taken, or the script stops where there was none
-abbrev pub IsFed : (stops : Bool) → (old new : ℕ) → Type 0
-IsFed false old new = old ≡ new + 1
-IsFed true old new = (old ≡ new + 1) ⊎ ((old ≡ 0) × (new ≡ 0))
+abbrev pub IsFed : Hand → (old new : ℕ) → Type 0
+IsFed hands.Stops old new = (old ≡ new + 1) ⊎ ((old ≡ 0) × (new ≡ 0))
+IsFed _ old new = old ≡ new + 1
 
 -- no call was made
 pub record SameCalls (old new : State) : Type 0 where
@@ -136,21 +138,34 @@ pub record AreKnown (t : Table) (x : State) : Type 0 where
 pub record Keeps (t : Table) (front : Option Cont) (old new : State) (move : Move) : Type 0 where
   pub under : IsFinePush t move.under
   pub push : IsFinePush t move.push
-  pub step : IsFineStep t move.gives move.stops new
-  pub light : IsLight move.gives move.stops move.push
+  pub step : IsFineStep t move.hand new
+  pub light : IsLight move.hand move.push
   pub operands : length new.operands.items + need_of front ≡ length old.operands.items + need_of move.under + need_of move.push
   pub base : new.base ≡ old.base
   pub below : take new.base new.vars.items ≡ take old.base old.vars.items
   pub size : length old.vars.items ≤ length new.vars.items
 
 -- This state goes on to that move and that state, and reads nothing.
-pub record Moves (front : Option Cont) (gives : Bool) (old new : State) (move : Move) (w : World) : Type 0 where
+pub record Moves (front : Option Cont) (before : Hand) (old new : State) (move : Move) (w : World) : Type 0 where
   pub same : (ks : List Cont) (fs : Frames) (read : List (ℕ × Act)) (journal : List Act)
-      → stands w (onto front ks) fs gives false old read journal ≡ stands w (onto move.push (onto move.under ks)) fs move.gives move.stops new read journal
+      → stands w (onto front ks) fs before old read journal ≡ stands w (onto move.push (onto move.under ks)) fs move.hand new read journal
   pub keeps : Keeps w.program front old new move
 
 -- The same behind what has no value yet.
 pub record Starts (before : World → ℕ → St → Answer) (old new : State) (move : Move) (w : World) : Type 0 where
   pub same : (ks : List Cont) (fs : Frames) (read : List (ℕ × Act)) (journal : List Act)
-      → resume w ks (reverse old.operands.items) fs (before w (room fs) (st_of old read journal)) ≡ stands w (onto move.push (onto move.under ks)) fs move.gives move.stops new read journal
+      → resume w ks (reverse old.operands.items) fs (before w (room fs) (st_of old read journal)) ≡ stands w (onto move.push (onto move.under ks)) fs move.hand new read journal
   pub keeps : Keeps w.program None old new move
+
+-- The move was taken: what it leaves to do stands on what was there.
+pub record Took (move : Move) (was now : List Cont) (result : Hand) : Type 0 where
+  pub hand : result ≡ move.hand
+  pub conts : reverse now ≡ onto move.push (onto move.under (reverse was))
+
+-- An expression began, which reads nothing, and its move was taken.
+pub record Started (t : Table) (old new : State) (was now : List Cont) (result : Hand) : Type 0 where
+  pub move : Move
+  pub took : Took move was now result
+  pub moves : InEach t (Moves None hands.Begins old new move)
+  pub under : IsPlain move.under
+  pub push : HasNoFrame move.push

@@ -30,4 +30,4 @@ pub record ActsOn (known : List Name) (c : ℕ) (was now : List Entry) (before :
   pub grows : acts c now ≡ acts c was ++ more
   pub apart : AllByRecursion (λ a. is_call a ≡ false) more
   pub same : (w : World) → IsPrefix known w.names → length w.names ≤ NAMES_MAX → (ks : List Cont) (fs : Frames) (read : List (ℕ × Act)) (journal : List Act)
-      → resume w ks (reverse old.operands.items) fs (before w (st_of old read (more ++ journal))) ≡ stands w (onto move.push (onto move.under ks)) fs move.gives move.stops new (read ++ tagged new.begun more) journal
+      → resume w ks (reverse old.operands.items) fs (before w (st_of old read (more ++ journal))) ≡ stands w (onto move.push (onto move.under ks)) fs move.hand new (read ++ tagged new.begun more) journal

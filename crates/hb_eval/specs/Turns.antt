@@ -1,5 +1,5 @@
 -- What a turn of the machine comes to: an expression begins, what is left to do is done with a value, or a stop passes it.
-use Rattle.std.specs.Prelude.{◌≡◌, ℕ, ◌+◌, ◌^◌, ◌<◌, ◌≤◌, List, ◌∷◌, ◌++◌, length, take, drop, reverse, count_by, Bool, true, false}
+use Rattle.std.specs.Prelude.{◌≡◌, ℕ, ◌+◌, ◌^◌, ◌<◌, ◌≤◌, List, ◌∷◌, ◌++◌, length, take, drop, reverse, count_by}
 use mathlib.Core.List.{IsPrefix}
 use Rattle.hb_tree.specs.Table.{Table}
 use Rattle.hb_names.specs.declared.names.TheConstants.{NAMES_MAX}
@@ -12,12 +12,14 @@ use Rattle.hb_eval.specs.declared.value.Value.{Value}
 use Rattle.hb_eval.specs.declared.cont.Cont.{Cont}
 use Rattle.hb_eval.specs.declared.framed.Framed.{Framed}
 use Rattle.hb_eval.specs.declared.state.State.{State}
+use Rattle.hb_eval.specs.declared.state.Hand.{Hand}
+use Rattle.hb_eval.specs.declared.state.Hand.TheVariants as hands
 use Rattle.hb_eval.specs.declared.state.Move.{Move}
 use Rattle.hb_eval.specs.State.{St, Answer, tagged}
 use Rattle.hb_eval.specs.Calls.{call_in}
 use Rattle.hb_eval.specs.Runs.{is_call, is_entered}
 use Rattle.hb_eval.specs.Machine.{World, need, frames_in, room, resume, stands, st_of}
-use Rattle.hb_eval.specs.Steps.{onto, need_of, IsFine, IsFinePush, IsFineStep, IsLight}
+use Rattle.hb_eval.specs.Steps.{onto, need_of, IsFine, IsFinePush, IsFineStep, IsLight, Took, weigh_push}
 use Rattle.hb_eval.specs.Stacks.{frames_at, IsBased, AllKnown, ended_of, calls_in, calls_of}
 
 -- a program, with the calls that it makes
@@ -25,8 +27,8 @@ abbrev pub world : Table → List Name → World
 world t names = record { program = t; names = names; calls = call_in t names }
 
 -- the answer of the whole run, where these are left to do
-abbrev pub stands_at : Table → List Name → List Cont → List Framed → (gives stops : Bool) → State → List (ℕ × Act) → List Act → Answer
-stands_at t names ks frames gives stops x read journal = stands (world t names) ks (frames_at frames x) gives stops x read journal
+abbrev pub stands_at : Table → List Name → List Cont → List Framed → Hand → State → List (ℕ × Act) → List Act → Answer
+stands_at t names ks frames hand x read journal = stands (world t names) ks (frames_at frames x) hand x read journal
 
 -- the answer of a run, by the names, what is left to do below, the acts read and those left
 abbrev pub Telling : Type 0
@@ -34,11 +36,11 @@ Telling = List Name → List Cont → List (ℕ × Act) → List Act → Answer
 
 -- where this is left to do with a value
 abbrev pub with_value : Table → Cont → List Framed → State → Telling
-with_value t k frames x names ks read journal = stands_at t names (k ∷ ks) frames true false x read journal
+with_value t k frames x names ks read journal = stands_at t names (k ∷ ks) frames hands.Gives x read journal
 
 -- where an expression begins
 abbrev pub at_beginning : Table → List Framed → State → Telling
-at_beginning t frames x names ks read journal = stands_at t names ks frames false false x read journal
+at_beginning t frames x names ks read journal = stands_at t names ks frames hands.Begins x read journal
 
 -- where this is left to do with the operands from a place on
 abbrev pub with_operands : Table → (at : ℕ) → (World → (room : ℕ) → List Value → St → Answer) → List Framed → State → Telling
@@ -48,7 +50,7 @@ with_operands t at f frames x names ks read journal =
 
 -- behind a move
 abbrev pub after : Table → Move → List Framed → State → Telling
-after t m frames x names ks read journal = stands_at t names (onto m.push (onto m.under ks)) frames m.gives m.stops x read journal
+after t m frames x names ks read journal = stands_at t names (onto m.push (onto m.under ks)) frames m.hand x read journal
 
 -- the calls among these acts were counted
 pub record Tallies (old new : State) (more : List Act) : Type 0 where
@@ -69,8 +71,8 @@ pub record Reads (known : List Name) (c : ℕ) (was now : List Entry) (old new :
 pub record Goes (t : Table) (taken ended pending : ℕ) (old_frames : List Framed) (old : State) (new_frames : List Framed) (new : State) (move : Move) : Type 0 where
   pub under : IsFinePush t move.under
   pub push : IsFinePush t move.push
-  pub step : IsFineStep t move.gives move.stops new
-  pub light : IsLight move.gives move.stops move.push
+  pub step : IsFineStep t move.hand new
+  pub light : IsLight move.hand move.push
   pub operands : length new.operands.items + taken ≡ length old.operands.items + need_of move.under + need_of move.push
   pub frames : length new_frames + ended ≡ length old_frames + ended_of move.under + ended_of move.push
   pub calls : new.made + calls_of move.under + calls_of move.push + old.begun ≤ old.made + pending + new.begun
@@ -97,3 +99,11 @@ pub record MayCall (x : State) : Type 0 where
   pub few : x.begun < 2 ^ 32
   pub decided : x.decided ≤ x.made
   pub entered : x.own + x.fresh ≤ x.decided
+
+-- Some acts came, and a move was taken that leaves less to do than was there.
+pub record Turned (t : Table) (known : List Name) (c : ℕ) (past now : List Entry) (taken ended pending weight : ℕ) (old_frames : List Framed) (old : State) (new_frames : List Framed) (new : State) (told : Telling) (was conts : List Cont) (result : Hand) : Type 0 where
+  pub move : Move
+  pub took : Took move was conts result
+  pub reads : Reads known c past now old new told (after t move new_frames new)
+  pub goes : Goes t taken ended pending old_frames old new_frames new move
+  pub light : weigh_push move.under < weight

@@ -3,6 +3,7 @@
 ghost use Rattle.std.specs.Prelude.{◌≡◌, ◌+◌, ◌-◌, ◌<◌, ◌≤◌, ◌^◌, length, take, drop, ℕ, IfOk, OnOk, All, Some, None, true, false};
 ghost use Rattle.hb_tree.specs.TreeAt.{IsExprAt, IsBlockAt, tree_at, forest_at};
 ghost use Rattle.hb_tree.specs.Tree.{TBlock};
+ghost use Rattle.hb_eval.specs.declared.state.Hand.TheVariants as hands;
 ghost use Rattle.hb_eval.specs.declared.cont.Cont.TheVariants as cont;
 ghost use Rattle.hb_eval.specs.Machine.{meaning, items_from};
 ghost use Rattle.hb_eval.specs.Steps.{Steady, IsPlain, AreKnown, InEach, Moves, Starts, IsFine, weigh_push};
@@ -83,7 +84,7 @@ pub(crate) fn start_block(prog: &Program, block: NodeId, state: &mut State) -> M
 #[tactic(auto, unfolding(crate::specs::State::then_do))]
 pub(crate) fn choose(prog: &Program, a: NodeId, b: NodeId, state: &mut State) -> Move
     requires fine { IsFine prog.now (cont.Choose a b) }
-    ensures moves { InEach prog.now (Moves (Some (cont.Choose a b)) true state.old state.new result) }
+    ensures moves { InEach prog.now (Moves (Some (cont.Choose a b)) hands.Gives state.old state.new result) }
     ensures plain { IsPlain result.under × IsPlain result.push }
     ensures steady { Steady state.old state.new }
     ensures known { AreKnown prog.now state.old → AreKnown prog.now state.new }
@@ -101,7 +102,7 @@ pub(crate) fn choose(prog: &Program, a: NodeId, b: NodeId, state: &mut State) ->
 #[tactic(auto, unfolding(crate::specs::State::then_do))]
 pub(crate) fn test(prog: &Program, condition: NodeId, block: NodeId, state: &mut State) -> Move
     requires fine { IsFine prog.now (cont.Test condition block) }
-    ensures moves { InEach prog.now (Moves (Some (cont.Test condition block)) true state.old state.new result) }
+    ensures moves { InEach prog.now (Moves (Some (cont.Test condition block)) hands.Gives state.old state.new result) }
     ensures plain { IsPlain result.under × IsPlain result.push }
     ensures steady { Steady state.old state.new }
     ensures known { AreKnown prog.now state.old → AreKnown prog.now state.new }
@@ -120,7 +121,7 @@ pub(crate) fn test(prog: &Program, condition: NodeId, block: NodeId, state: &mut
 #[tactic(auto, unfolding(crate::specs::State::then_do))]
 pub(crate) fn turn(prog: &Program, condition: NodeId, block: NodeId, state: &mut State) -> Move
     requires fine { IsFine prog.now (cont.Turn condition block) }
-    ensures moves { InEach prog.now (Moves (Some (cont.Turn condition block)) true state.old state.new result) }
+    ensures moves { InEach prog.now (Moves (Some (cont.Turn condition block)) hands.Gives state.old state.new result) }
     ensures plain { IsPlain result.under × IsPlain result.push }
     ensures steady { Steady state.old state.new }
     ensures known { AreKnown prog.now state.old → AreKnown prog.now state.new }
@@ -134,7 +135,7 @@ pub(crate) fn turn(prog: &Program, condition: NodeId, block: NodeId, state: &mut
 #[tactic(auto, unfolding(crate::specs::State::then_do))]
 pub(crate) fn items(prog: &Program, block: NodeId, at: u32, state: &mut State) -> Move
     requires fine { IsFine prog.now (cont.Items block at) }
-    ensures moves { InEach prog.now (Moves (Some (cont.Items block at)) true state.old state.new result) }
+    ensures moves { InEach prog.now (Moves (Some (cont.Items block at)) hands.Gives state.old state.new result) }
     ensures plain { IsPlain result.under × IsPlain result.push }
     ensures steady { Steady state.old state.new }
     ensures known { AreKnown prog.now state.old → AreKnown prog.now state.new }

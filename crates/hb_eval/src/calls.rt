@@ -1,30 +1,28 @@
 //! How a method is called.
 
-ghost use Rattle.std.specs.Prelude.{◌≡◌, ◌+◌, ◌-◌, ◌<◌, ◌≤◌, ◌^◌, ◌++◌, [], ◌∷◌, ℕ, List, length, map, take, drop, slice_get, get_or, suc, IfOk, OnOk, Some, None, Ok, Err, true, false, vec_len, vec_capacity};
+ghost use Rattle.std.specs.Prelude.{◌≡◌, ◌+◌, ◌-◌, ◌<◌, ◌≤◌, ◌++◌, [], ◌∷◌, ℕ, List, length, map, take, drop, slice_get, get_or, suc, IfOk, OnOk, Some, None, Ok, Err, true, false, vec_len, vec_capacity};
 ghost use mathlib.Core.List.{IsPrefix};
 ghost use Rattle.hb_tree.specs.declared.parts.Body.{Body};
 ghost use Rattle.hb_tree.specs.declared.limits.TheConstants.{ARGUMENTS_MAX};
 ghost use Rattle.hb_tree.specs.Canon.{bytes_at};
 ghost use Rattle.hb_tree.specs.Nodes.{params_of};
 ghost use Rattle.hb_tree.specs.TreeAt.{IsExprAt, tree_at};
-ghost use Rattle.hb_names.specs.Names.{Differ, IsFull, Name, place};
+ghost use Rattle.hb_names.specs.Names.{Differ, Name, place};
 ghost use Rattle.hb_types.specs.declared.types.TheConstants.{PARAMS_MAX};
 ghost use Rattle.hb_names.specs.declared.names.TheConstants.{NAMES_MAX};
 ghost use Rattle.hb_tables.specs.declared.entry.Entry.{Entry};
+ghost use Rattle.hb_eval.specs.declared.state.Hand.TheVariants as hands;
 ghost use Rattle.hb_eval.specs.declared.value.Value.{Value as Values};
 ghost use Rattle.hb_eval.specs.declared.stop.Stop.TheVariants.{Full};
-ghost use Rattle.hb_tables.specs.Rows.{body_at};
-ghost use Rattle.hb_call.specs.Entering.{Enters, IsFullAtOnce, IsFullLater, IsRefused};
 ghost use Rattle.hb_call.specs.Growth.{Grown};
-ghost use Rattle.hb_call.specs.Held.{stands};
 ghost use Rattle.hb_call.specs.OwnCache.{IsOwnCache};
 ghost use Rattle.hb_eval.specs.declared.cont.Cont.TheVariants as cont;
 ghost use Rattle.hb_eval.specs.declared.value.Value.TheVariants as value;
 ghost use Rattle.hb_eval.specs.Calls as calls;
 ghost use Rattle.hb_eval.specs.Machine.{arguments_from};
-ghost use Rattle.hb_eval.specs.Steps.{IsCall, IsPlain, SameCalls, Steady, arguments_in, weigh_push};
+ghost use Rattle.hb_eval.specs.Steps.{IsCall, Steady, arguments_in, weigh_push};
 ghost use Rattle.hb_eval.specs.Stacks.{AllKnown};
-ghost use Rattle.hb_eval.specs.Turns.{Goes, MayCall, Reads, Ready, after, with_operands, with_value};
+ghost use Rattle.hb_eval.specs.Turns.{Goes, MayCall, Reads, Ready, Turned, after, with_operands, with_value};
 ghost use Rattle.hb_eval.specs.Entries.{IsPlaced, asked_again, calling, counted, entered, refusal};
 ghost use Rattle.hb_eval.specs.Gathering.{Shares};
 ghost use Rattle.hb_eval.specs.Holding.{Holding, frames_of};
@@ -34,8 +32,8 @@ use crate::arguments::kinds;
 use crate::blocks::start_block;
 use crate::cont::Cont;
 use crate::framed::Framed;
-use crate::moves::{first, halt, under};
-use crate::state::{Move, State};
+use crate::moves::{first, halt, take, under};
+use crate::state::{Hand, Move, State};
 use crate::stop::Stop;
 use crate::value::Value;
 use hb_call::{CallFail, Entered, Frame, Share, enter};
@@ -61,16 +59,15 @@ pub(crate) fn receiver<D: Desk, N: Names>(
     names: &mut N,
     id: NodeId,
     state: &mut State,
+    conts: &mut Vec<Cont>,
     frames: &mut Vec<Framed>,
     share: &mut Share,
-) -> Result<Move, AllocError>
+) -> Result<Hand, AllocError>
     requires ready { Ready prog.now (cont.Receiver id) frames.old.items state.old }
     requires holding { Holding (D.fixed desk.old).caller (state.old.made + 1) (frames_of frames.old.items) (D.front desk.old) }
     requires own { IsOwnCache prog.now (N.known names.old) (N.asked names.old) (D.fixed desk.old).caller (D.front desk.old) state.old.cache }
-    ensures reads { IfOk result (λ m. Reads (N.known names.new) (D.fixed desk.old).caller (D.front desk.old) (D.front desk.new) state.old state.new
-        (with_value prog.now (cont.Receiver id) frames.old.items state.old) (after prog.now m frames.new.items state.new)) }
-    ensures goes { IfOk result (Goes prog.now (0) 0 1 frames.old.items state.old frames.new.items state.new) }
-    ensures light { IfOk result (λ m. weigh_push m.under < 2) }
+    ensures turned { IfOk result (Turned prog.now (N.known names.new) (D.fixed desk.old).caller (D.front desk.old) (D.front desk.new) (0) 0 1 2 frames.old.items state.old frames.new.items state.new
+        (with_value prog.now (cont.Receiver id) frames.old.items state.old) conts.old.items conts.new.items) }
     ensures timed { (state.new.begun ≡ state.old.begun) × (state.new.fuel ≡ state.old.fuel) }
     ensures holding { Holding (D.fixed desk.old).caller (state.new.made + 1) (frames_of frames.new.items) (D.front desk.new) }
     ensures stays { Stays (D.fixed desk.old) (D.fixed desk.new) (D.front desk.old) (D.front desk.new) (N.known names.old) (N.known names.new) }
@@ -81,7 +78,7 @@ pub(crate) fn receiver<D: Desk, N: Names>(
 {
     let value = mem::replace(&mut state.acc, Value::Nil);
     state.operands.push(value)?;
-    next_argument(alloc, prog, desk, names, id, 0, state, frames, share)
+    next_argument(alloc, prog, desk, names, id, 0, state, conts, frames, share)
 }
 
 /// An argument of a call is there, behind so many others.
@@ -94,16 +91,15 @@ pub(crate) fn argument<D: Desk, N: Names>(
     id: NodeId,
     count: u8,
     state: &mut State,
+    conts: &mut Vec<Cont>,
     frames: &mut Vec<Framed>,
     share: &mut Share,
-) -> Result<Move, AllocError>
+) -> Result<Hand, AllocError>
     requires ready { Ready prog.now (cont.Arguments id count) frames.old.items state.old }
     requires holding { Holding (D.fixed desk.old).caller (state.old.made + 1) (frames_of frames.old.items) (D.front desk.old) }
     requires own { IsOwnCache prog.now (N.known names.old) (N.asked names.old) (D.fixed desk.old).caller (D.front desk.old) state.old.cache }
-    ensures reads { IfOk result (λ m. Reads (N.known names.new) (D.fixed desk.old).caller (D.front desk.old) (D.front desk.new) state.old state.new
-        (with_value prog.now (cont.Arguments id count) frames.old.items state.old) (after prog.now m frames.new.items state.new)) }
-    ensures goes { IfOk result (Goes prog.now (suc count) 0 1 frames.old.items state.old frames.new.items state.new) }
-    ensures light { IfOk result (λ m. weigh_push m.under < 2) }
+    ensures turned { IfOk result (Turned prog.now (N.known names.new) (D.fixed desk.old).caller (D.front desk.old) (D.front desk.new) (suc count) 0 1 2 frames.old.items state.old frames.new.items state.new
+        (with_value prog.now (cont.Arguments id count) frames.old.items state.old) conts.old.items conts.new.items) }
     ensures timed { (state.new.begun ≡ state.old.begun) × (state.new.fuel ≡ state.old.fuel) }
     ensures holding { Holding (D.fixed desk.old).caller (state.new.made + 1) (frames_of frames.new.items) (D.front desk.new) }
     ensures stays { Stays (D.fixed desk.old) (D.fixed desk.new) (D.front desk.old) (D.front desk.new) (N.known names.old) (N.known names.new) }
@@ -122,6 +118,7 @@ pub(crate) fn argument<D: Desk, N: Names>(
         id,
         count + 1,
         state,
+        conts,
         frames,
         share,
     )
@@ -137,9 +134,10 @@ fn next_argument<D: Desk, N: Names>(
     id: NodeId,
     count: u8,
     state: &mut State,
+    conts: &mut Vec<Cont>,
     frames: &mut Vec<Framed>,
     share: &mut Share,
-) -> Result<Move, AllocError>
+) -> Result<Hand, AllocError>
     requires call { IsExprAt prog.now id.0 × IsCall (tree_at prog.now id.0) }
     requires count { count ≤ arguments_in (tree_at prog.now id.0) }
     requires there { count < length state.old.operands.items }
@@ -147,10 +145,8 @@ fn next_argument<D: Desk, N: Names>(
     requires known { AllKnown prog.now frames.old.items state.old }
     requires holding { Holding (D.fixed desk.old).caller (state.old.made + 1) (frames_of frames.old.items) (D.front desk.old) }
     requires own { IsOwnCache prog.now (N.known names.old) (N.asked names.old) (D.fixed desk.old).caller (D.front desk.old) state.old.cache }
-    ensures reads { IfOk result (λ m. Reads (N.known names.new) (D.fixed desk.old).caller (D.front desk.old) (D.front desk.new) state.old state.new
-        (with_operands prog.now (length state.old.operands.items - count - 1) (λ w room vs s. arguments_from w room (tree_at prog.now id.0) count vs s) frames.old.items state.old) (after prog.now m frames.new.items state.new)) }
-    ensures goes { IfOk result (Goes prog.now (suc count) 0 1 frames.old.items state.old frames.new.items state.new) }
-    ensures light { IfOk result (λ m. weigh_push m.under < 2) }
+    ensures turned { IfOk result (Turned prog.now (N.known names.new) (D.fixed desk.old).caller (D.front desk.old) (D.front desk.new) (suc count) 0 1 2 frames.old.items state.old frames.new.items state.new
+        (with_operands prog.now (length state.old.operands.items - count - 1) (λ w room vs s. arguments_from w room (tree_at prog.now id.0) count vs s) frames.old.items state.old) conts.old.items conts.new.items) }
     ensures timed { (state.new.begun ≡ state.old.begun) × (state.new.fuel ≡ state.old.fuel) }
     ensures holding { Holding (D.fixed desk.old).caller (state.new.made + 1) (frames_of frames.new.items) (D.front desk.new) }
     ensures stays { Stays (D.fixed desk.old) (D.fixed desk.new) (D.front desk.old) (D.front desk.new) (N.known names.old) (N.known names.new) }
@@ -164,10 +160,12 @@ fn next_argument<D: Desk, N: Names>(
             let ids = arguments(&args);
             let next = count as usize;
             if next < ids.len() {
-                Ok(first(state, Cont::Arguments(id, count), ids[next]))
+                take(conts, first(state, Cont::Arguments(id, count), ids[next]))
             } else {
                 let at = state.operands.len() - next - 1;
-                call(alloc, prog, desk, names, id, name, at, state, frames, share)
+                call(
+                    alloc, prog, desk, names, id, name, at, state, conts, frames, share,
+                )
             }
         }
         _ => unreachable!(),
@@ -191,7 +189,7 @@ fn receiver_class(value: &Value) -> Result<ClassId, Stop>
 #[inline(never)]
 fn refuse(state: &mut State, at: usize, stop: Stop, id: NodeId) -> Move
     requires { at ≤ length state.old.operands.items }
-    ensures value { result ≡ record { under = None; push = None; gives = false; stops = true } }
+    ensures value { result ≡ record { under = None; push = None; hand = hands.Stops } }
     ensures state { state.new ≡ record state.old { operands = state.new.operands; stop = stop; at = id } }
     ensures cut { state.new.operands.items ≡ take at state.old.operands.items }
 {
@@ -199,9 +197,9 @@ fn refuse(state: &mut State, at: usize, stop: Stop, id: NodeId) -> Move
     halt(state, stop, id)
 }
 
-// A call whose receiver and so many arguments are there.
-#[inline(never)]
-fn call<D: Desk, N: Names>(
+// A call whose receiver and so many arguments are there, and what it leaves to do.
+#[inline(always)]
+fn call_here<D: Desk, N: Names>(
     alloc: Global,
     prog: &Program,
     desk: &mut D,
@@ -239,6 +237,42 @@ fn call<D: Desk, N: Names>(
             alloc, prog, desk, names, id, name, class, at, state, frames, share,
         ),
     }
+}
+
+// A call whose receiver and so many arguments are there.
+#[inline(never)]
+fn call<D: Desk, N: Names>(
+    alloc: Global,
+    prog: &Program,
+    desk: &mut D,
+    names: &mut N,
+    id: NodeId,
+    name: NameId,
+    at: usize,
+    state: &mut State,
+    conts: &mut Vec<Cont>,
+    frames: &mut Vec<Framed>,
+    share: &mut Share,
+) -> Result<Hand, AllocError>
+    requires name { name.0 < length prog.now.names }
+    requires at { at < length state.old.operands.items }
+    requires short { length state.old.operands.items ≤ at + 1 + ARGUMENTS_MAX }
+    requires may { MayCall state.old }
+    requires known { AllKnown prog.now frames.old.items state.old }
+    requires holding { Holding (D.fixed desk.old).caller (state.old.made + 1) (frames_of frames.old.items) (D.front desk.old) }
+    requires own { IsOwnCache prog.now (N.known names.old) (N.asked names.old) (D.fixed desk.old).caller (D.front desk.old) state.old.cache }
+    ensures turned { IfOk result (Turned prog.now (N.known names.new) (D.fixed desk.old).caller (D.front desk.old) (D.front desk.new) (length state.old.operands.items - at) 0 1 2 frames.old.items state.old frames.new.items state.new
+        (with_operands prog.now at (λ w room vs s. calling w room id.0 name.0 vs s) frames.old.items state.old) conts.old.items conts.new.items) }
+    ensures timed { (state.new.begun ≡ state.old.begun) × (state.new.fuel ≡ state.old.fuel) }
+    ensures holding { Holding (D.fixed desk.old).caller (state.new.made + 1) (frames_of frames.new.items) (D.front desk.new) }
+    ensures stays { Stays (D.fixed desk.old) (D.fixed desk.new) (D.front desk.old) (D.front desk.new) (N.known names.old) (N.known names.new) }
+    ensures grown { OnOk result (Grown prog.now (D.fixed desk.old).caller (N.known names.new) (N.asked names.old) (N.asked names.new) (D.front desk.old) (D.front desk.new)) }
+    ensures own { OnOk result (IsOwnCache prog.now (N.known names.new) (N.asked names.new) (D.fixed desk.old).caller (D.front desk.new) state.new.cache) }
+    ensures shares { OnOk result (Shares prog.now (N.known names.new) (D.fixed desk.old).caller (D.front desk.old) (D.front desk.new) share.old share.new) }
+    ensures alike { N.alike names.old names.new }
+{
+    let next = call_here(alloc, prog, desk, names, id, name, at, state, frames, share)?;
+    take(conts, next)
 }
 
 // A call that is to be decided. Room for its frame is there before, so that it loses no hold.
@@ -345,7 +379,7 @@ fn stop_of(verdict: Verdict) -> Option<Stop>
 fn refused(state: &mut State, at: usize, stop: Stop, id: NodeId) -> Move
     requires at { at ≤ length state.old.operands.items }
     requires may { MayCall state.old }
-    ensures value { result ≡ record { under = None; push = None; gives = false; stops = true } }
+    ensures value { result ≡ record { under = None; push = None; hand = hands.Stops } }
     ensures state { state.new ≡ record state.old { operands = state.new.operands; made = state.old.made + 1; decided = state.old.decided + 1; stop = stop; at = id } }
     ensures cut { state.new.operands.items ≡ take at state.old.operands.items }
 {
@@ -360,7 +394,7 @@ fn refused(state: &mut State, at: usize, stop: Stop, id: NodeId) -> Move
 fn full(state: &mut State, at: usize, id: NodeId) -> Move
     requires at { at ≤ length state.old.operands.items }
     requires may { MayCall state.old }
-    ensures value { result ≡ record { under = None; push = None; gives = false; stops = true } }
+    ensures value { result ≡ record { under = None; push = None; hand = hands.Stops } }
     ensures state { state.new ≡ record state.old { operands = state.new.operands; made = state.old.made + 1; stop = Full; at = id } }
     ensures cut { state.new.operands.items ≡ take at state.old.operands.items }
 {
@@ -417,11 +451,23 @@ fn bind(
     ensures size { length operands.new.items ≡ length operands.old.items }
 {
     let count = params.len().min(operands.len() - from);
+    vars.reserve(count)?;
     for i in 0..count {
         let value = mem::replace(&mut operands[from + i], Value::Nil);
-        vars.push((params[i], value))?;
+        vars.push_reserved((params[i], value));
     }
     Ok(())
+}
+
+// Takes the operands from a place on away. There are few, whose values have moved on but for the receiver.
+#[inline(always)]
+fn cut(operands: &mut Vec<Value>, at: usize)
+    requires { at ≤ length operands.old.items }
+    ensures { operands.new.items ≡ take at operands.old.items }
+{
+    'cutting: while operands.len() > at {
+        operands.pop();
+    }
 }
 
 // The body of a call begins, in a frame of its own.
@@ -458,7 +504,7 @@ fn start_body(
         &mut state.operands,
         at + 1,
     )?;
-    state.operands.truncate(at);
+    cut(&mut state.operands, at);
     state.base = base;
     state.class = Some(class);
     let of = start_block(prog, body.block, state);

@@ -27,7 +27,7 @@ pub enum Cont {
     Receiver(NodeId),
     /// It is the argument of a call behind so many others.
     Arguments(NodeId, u8),
-    /// It is the computed name of a method.
+    /// The node is a `def` or a `type`. It is the name of its method, where that is computed.
     Method(NodeId),
     /// It is that of a method's body.
     Frame,

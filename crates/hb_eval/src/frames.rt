@@ -1,11 +1,12 @@
 //! How frames end, and how a stop passes what is left to do.
 
-ghost use Rattle.std.specs.Prelude.{◌≡◌, ◌+◌, ◌≤◌, [], ◌∷◌, List, length, Bool, true, false, None};
+ghost use Rattle.std.specs.Prelude.{◌≡◌, ◌+◌, ◌≤◌, [], ◌∷◌, List, length, None};
 ghost use mathlib.Core.List.{IsPrefix};
 ghost use Rattle.hb_tree.specs.Table.{Table};
 ghost use Rattle.hb_names.specs.Names.{Name};
 ghost use Rattle.hb_tables.specs.History.{IsLegal};
 ghost use Rattle.hb_call.specs.Growth.{Grown};
+ghost use Rattle.hb_eval.specs.declared.state.Hand.TheVariants as hands;
 ghost use Rattle.hb_eval.specs.declared.cont.Cont.TheVariants as cont;
 ghost use Rattle.hb_eval.specs.Machine.{need, frames_in};
 ghost use Rattle.hb_eval.specs.Steps.{Steady};
@@ -53,7 +54,7 @@ pub(crate) fn end_body<D: Desk>(desk: &mut D, state: &mut State, frames: &mut Ve
     ensures reads { (t : Table) (known : List Name) → Reads known (D.fixed desk.old).caller (D.front desk.old) (D.front desk.new) state.old state.new
         (with_value t cont.Frame frames.old.items state.old) (after t result frames.new.items state.new) }
     ensures goes { (t : Table) → Goes t 0 1 0 frames.old.items state.old frames.new.items state.new result }
-    ensures plain { result ≡ record { under = None; push = None; gives = true; stops = false } }
+    ensures plain { result ≡ record { under = None; push = None; hand = hands.Gives } }
     ensures steady { Steady state.old state.new }
     ensures holding { Holding (D.fixed desk.old).caller (state.new.made + 1) (frames_of frames.new.items) (D.front desk.new) }
     ensures kept { IsPrefix (D.front desk.old) (D.front desk.new) }
@@ -84,8 +85,8 @@ pub(crate) fn pass<D: Desk>(desk: &mut D, cont: Cont, state: &mut State, frames:
     requires operands { need cont ≤ length state.old.operands.items }
     requires frames { frames_in cont ≤ length frames.old.items }
     requires holding { Holding (D.fixed desk.old).caller (state.old.made + 1) (frames_of frames.old.items) (D.front desk.old) }
-    ensures reads { (t : Table) (known : List Name) (gives : Bool) → Reads known (D.fixed desk.old).caller (D.front desk.old) (D.front desk.new) state.old state.new
-        (with_stop t (cont ∷ []) gives frames.old.items state.old) (with_stop t [] gives frames.new.items state.new) }
+    ensures reads { (t : Table) (known : List Name) → Reads known (D.fixed desk.old).caller (D.front desk.old) (D.front desk.new) state.old state.new
+        (with_stop t (cont ∷ []) frames.old.items state.old) (with_stop t [] frames.new.items state.new) }
     ensures lowers { (t : Table) → Lowers t (need cont) (frames_in cont) frames.old.items state.old frames.new.items state.new }
     ensures holding { Holding (D.fixed desk.old).caller (state.new.made + 1) (frames_of frames.new.items) (D.front desk.new) }
     ensures kept { IsPrefix (D.front desk.old) (D.front desk.new) }

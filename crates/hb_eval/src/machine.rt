@@ -1,6 +1,6 @@
 //! A machine: the run of a script between two of its beginnings.
 
-ghost use Rattle.std.specs.Prelude.{◌≡◌, ◌+◌, ◌<◌, ◌≤◌, ◌++◌, [], ℕ, List, length, map, IfOk, OnOk, OnErr, Some, true, false, vec_len, vec_capacity};
+ghost use Rattle.std.specs.Prelude.{◌≡◌, ◌+◌, ◌<◌, ◌≤◌, ◌++◌, [], ℕ, List, length, map, IfOk, OnOk, OnErr, Some, true, false};
 ghost use mathlib.Core.List.{IsPrefix};
 ghost use Rattle.hb_tree.specs.Table.{Table};
 ghost use Rattle.hb_tree.specs.TreeAt.{IsBlockAt};
@@ -12,7 +12,9 @@ ghost use Rattle.hb_tables.specs.Frames.{acts};
 ghost use Rattle.hb_call.specs.Growth.{Grown};
 ghost use Rattle.hb_call.specs.Held.{stands};
 ghost use Rattle.hb_call.specs.OwnCache.{IsOwnCache};
+ghost use Rattle.hb_tables.specs.History.{IsLegal};
 ghost use Rattle.hb_eval.specs.declared.machine.Turn.TheVariants.{Ended};
+ghost use Rattle.hb_eval.specs.declared.state.Hand.TheVariants as hands;
 ghost use Rattle.hb_eval.specs.State.{tagged};
 ghost use Rattle.hb_eval.specs.Calls.{call_in};
 ghost use Rattle.hb_eval.specs.Runs.{Run, script_run};
@@ -21,17 +23,19 @@ ghost use Rattle.hb_eval.specs.Gathering.{Shares};
 ghost use Rattle.hb_eval.specs.Holding.{Holding, frames_of};
 ghost use Rattle.hb_eval.specs.Staying.{Stays};
 ghost use Rattle.hb_eval.specs.Steps.{SameCalls};
-ghost use Rattle.hb_eval.specs.Machines.{Advances, Begins, Carries, HasBegun, HasEnded, IsAtRest, IsFineMachine, IsGoing, MovedOn, Opens, SameHand, StandsFor, Turns, outcome_of, turn_of, turns_left};
+ghost use Rattle.hb_eval.specs.Machines.{Advances, Begins, Carries, HasBegun, HasEnded, IsAtRest, IsFineMachine, IsGoing, IsSettled, Opens, StandsFor, Turns, outcome_of, turn_of, turns_left};
 
+use crate::begin::begin;
 use crate::blocks::items;
 use crate::cont::Cont;
 use crate::framed::Framed;
 use crate::frames::pass;
 use crate::leaving::leave_all;
+use crate::moves::take;
 use crate::script_run::ScriptRun;
-use crate::state::{Move, State};
+use crate::state::{Hand, State};
 use crate::stop::{Outcome, Stop};
-use crate::turns::{apply, start};
+use crate::turns::apply;
 use crate::value::Value;
 use hb_cache::Cache;
 use hb_call::Share;
@@ -57,20 +61,17 @@ pub struct Machine {
     conts: Vec<Cont>,
     /// The live frames, the last on top.
     frames: Vec<Framed>,
-    /// A value is in hand.
-    gives: bool,
-    /// The script stops.
-    stops: bool,
+    /// What comes next.
+    hand: Hand,
 }
 
 // How a run ended.
-fn outcome(stops: bool, stop: Stop, at: NodeId, value: Value) -> Outcome
-    ensures { result ≡ outcome_of stops stop at value }
+fn outcome(hand: Hand, stop: Stop, at: NodeId, value: Value) -> Outcome
+    ensures { result ≡ outcome_of hand stop at value }
 {
-    if stops {
-        Outcome::Stopped(stop, at)
-    } else {
-        Outcome::Done(value)
+    match hand {
+        Hand::Stops => Outcome::Stopped(stop, at),
+        _ => Outcome::Done(value),
     }
 }
 
@@ -111,30 +112,11 @@ impl Machine {
             },
             conts,
             frames: Vec::new(alloc),
-            gives: true,
-            stops: false,
+            hand: Hand::Gives,
         })
     }
 
-    // What a move says is done. There is room for what it pushes.
-    #[inline(always)]
-    #[tactic(auto, using(crate::proofs::StackLemmas::pushed_first))]
-    fn take_move(&mut self, next: Move)
-        requires room { vec_len self.old.conts + 2 ≤ vec_capacity self.old.conts }
-        ensures moved { MovedOn self.old self.new next }
-        ensures same { SameHand self.old self.new }
-    {
-        if let Some(cont) = next.under {
-            self.conts.push_reserved(cont);
-        }
-        if let Some(cont) = next.push {
-            self.conts.push_reserved(cont);
-        }
-        self.gives = next.gives;
-        self.stops = next.stops;
-    }
-
-    // The value in hand meets what is to be done, or the stop passes it. False where nothing is left, or an expression is to begin.
+    // What is left to do is done with the value in hand. Whether another value is in hand then.
     #[inline(always)]
     fn step<D: Desk, N: Names>(
         &mut self,
@@ -145,50 +127,114 @@ impl Machine {
         share: &mut Share,
     ) -> Result<bool, AllocError>
         requires fine { IsFineMachine prog.now self.old }
+        requires gives { self.old.hand ≡ hands.Gives }
         requires holding { Holding (D.fixed desk.old).caller (self.old.state.made + 1) (frames_of self.old.frames.items) (D.front desk.old) }
         requires own { IsOwnCache prog.now (N.known names.old) (N.asked names.old) (D.fixed desk.old).caller (D.front desk.old) self.old.state.cache }
         ensures carries { OnOk result (Carries prog.now (D.fixed desk.old).caller (N.known names.new) (N.asked names.old) (N.asked names.new) (D.front desk.old) (D.front desk.new) self.old self.new) }
         ensures falls { IfOk result (λ more. more ≡ true → turns_left self.new < turns_left self.old) }
-        ensures rest { IfOk result (λ more. more ≡ false → IsAtRest self.new) }
+        ensures gives { IfOk result (λ more. more ≡ true → self.new.hand ≡ hands.Gives) }
+        ensures settled { IfOk result (λ more. more ≡ false → IsSettled self.new) }
         ensures holding { Holding (D.fixed desk.old).caller (self.new.state.made + 1) (frames_of self.new.frames.items) (D.front desk.new) }
         ensures stays { Stays (D.fixed desk.old) (D.fixed desk.new) (D.front desk.old) (D.front desk.new) (N.known names.old) (N.known names.new) }
         ensures shares { OnOk result (Shares prog.now (N.known names.new) (D.fixed desk.old).caller (D.front desk.old) (D.front desk.new) share.old share.new) }
         ensures alike { N.alike names.old names.new }
         ensures caller { self.new.caller ≡ self.old.caller }
     {
-        if self.stops {
-            match self.conts.pop() {
-                None => Ok(false),
-                Some(cont) => {
-                    pass(desk, cont, &mut self.state, &mut self.frames);
-                    Ok(true)
-                }
+        match self.conts.pop() {
+            None => Ok(false),
+            Some(cont) => {
+                let hand = apply(
+                    alloc,
+                    prog,
+                    desk,
+                    names,
+                    cont,
+                    &mut self.state,
+                    &mut self.conts,
+                    &mut self.frames,
+                    share,
+                )?;
+                self.hand = hand;
+                Ok(hand == Hand::Gives)
             }
-        } else if self.gives {
-            match self.conts.pop() {
-                None => Ok(false),
-                Some(cont) => {
-                    self.conts.reserve(2)?;
-                    let next = apply(
-                        alloc,
-                        prog,
-                        desk,
-                        names,
-                        cont,
-                        &mut self.state,
-                        &mut self.frames,
-                        share,
-                    )?;
-                    self.take_move(next);
-                    Ok(true)
-                }
-            }
-        } else {
-            Ok(false)
+        }
+    }
+
+    // Steps, while a value is in hand and something is left to do with it.
+    #[inline(always)]
+    fn steps<D: Desk, N: Names>(
+        &mut self,
+        alloc: Global,
+        prog: &Program,
+        desk: &mut D,
+        names: &mut N,
+        share: &mut Share,
+    ) -> Result<(), AllocError>
+        requires fine { IsFineMachine prog.now self.old }
+        requires holding { Holding (D.fixed desk.old).caller (self.old.state.made + 1) (frames_of self.old.frames.items) (D.front desk.old) }
+        requires own { IsOwnCache prog.now (N.known names.old) (N.asked names.old) (D.fixed desk.old).caller (D.front desk.old) self.old.state.cache }
+        ensures carries { OnOk result (Carries prog.now (D.fixed desk.old).caller (N.known names.new) (N.asked names.old) (N.asked names.new) (D.front desk.old) (D.front desk.new) self.old self.new) }
+        ensures settled { OnOk result (IsSettled self.new) }
+        ensures holding { Holding (D.fixed desk.old).caller (self.new.state.made + 1) (frames_of self.new.frames.items) (D.front desk.new) }
+        ensures stays { Stays (D.fixed desk.old) (D.fixed desk.new) (D.front desk.old) (D.front desk.new) (N.known names.old) (N.known names.new) }
+        ensures shares { OnOk result (Shares prog.now (N.known names.new) (D.fixed desk.old).caller (D.front desk.old) (D.front desk.new) share.old share.new) }
+        ensures alike { N.alike names.old names.new }
+        ensures caller { self.new.caller ≡ self.old.caller }
+    {
+        match self.hand {
+            Hand::Gives => {}
+            _ => return Ok(()),
+        }
+        'steps: while self.step(alloc, prog, desk, names, share)? {}
+        Ok(())
+    }
+
+    // The stop passes all that was to be done.
+    #[cold]
+    #[inline(never)]
+    fn unwind<D: Desk>(&mut self, prog: &Program, desk: &mut D)
+        requires fine { IsFineMachine prog.now self.old }
+        requires stops { self.old.hand ≡ hands.Stops }
+        requires holding { Holding (D.fixed desk.old).caller (self.old.state.made + 1) (frames_of self.old.frames.items) (D.front desk.old) }
+        ensures unwinds { (known asked : List Name) → IsOwnCache prog.now known asked (D.fixed desk.old).caller (D.front desk.old) self.old.state.cache → Carries prog.now (D.fixed desk.old).caller known asked asked (D.front desk.old) (D.front desk.new) self.old self.new }
+        ensures rest { IsAtRest self.new }
+        ensures calls { SameCalls self.old.state self.new.state }
+        ensures holding { Holding (D.fixed desk.old).caller (self.new.state.made + 1) (frames_of self.new.frames.items) (D.front desk.new) }
+        ensures kept { IsPrefix (D.front desk.old) (D.front desk.new) }
+        ensures legal { IsLegal (D.fixed desk.old).limit (D.front desk.old) → IsLegal (D.fixed desk.old).limit (D.front desk.new) }
+        ensures fixed { D.fixed desk.new ≡ D.fixed desk.old }
+        ensures caller { self.new.caller ≡ self.old.caller }
+    {
+        // Its program says what each of these takes.
+        let _nodes = prog.nodes();
+        'passing: while let Some(cont) = self.conts.pop() {
+            pass(desk, cont, &mut self.state, &mut self.frames);
+        }
+    }
+
+    // A stop passes all that was to be done, where there is one.
+    #[inline(always)]
+    fn end_stop<D: Desk>(&mut self, prog: &Program, desk: &mut D)
+        requires fine { IsFineMachine prog.now self.old }
+        requires settled { IsSettled self.old }
+        requires holding { Holding (D.fixed desk.old).caller (self.old.state.made + 1) (frames_of self.old.frames.items) (D.front desk.old) }
+        ensures unwinds { (known asked : List Name) → IsOwnCache prog.now known asked (D.fixed desk.old).caller (D.front desk.old) self.old.state.cache → Carries prog.now (D.fixed desk.old).caller known asked asked (D.front desk.old) (D.front desk.new) self.old self.new }
+        ensures rest { IsAtRest self.new }
+        ensures calls { SameCalls self.old.state self.new.state }
+        ensures holding { Holding (D.fixed desk.old).caller (self.new.state.made + 1) (frames_of self.new.frames.items) (D.front desk.new) }
+        ensures kept { IsPrefix (D.front desk.old) (D.front desk.new) }
+        ensures legal { IsLegal (D.fixed desk.old).limit (D.front desk.old) → IsLegal (D.fixed desk.old).limit (D.front desk.new) }
+        ensures fixed { D.fixed desk.new ≡ D.fixed desk.old }
+        ensures caller { self.new.caller ≡ self.old.caller }
+    {
+        match self.hand {
+            Hand::Stops => self.unwind(prog, desk),
+            _ => {}
         }
     }
 
     // What follows up to the next beginning, or to the end.
+    #[inline(always)]
     fn settle<D: Desk, N: Names>(
         &mut self,
         alloc: Global,
@@ -208,38 +254,27 @@ impl Machine {
         ensures alike { N.alike names.old names.new }
         ensures caller { self.new.caller ≡ self.old.caller }
     {
-        'steps: while self.step(alloc, prog, desk, names, share)? {}
+        self.steps(alloc, prog, desk, names, share)?;
+        self.end_stop(prog, desk);
         Ok(())
     }
 
-    // What begins next begins, and what its move says is done.
+    // What begins next begins.
     #[inline(always)]
-    fn begin_one<D: Desk, N: Names>(
-        &mut self,
-        alloc: Global,
-        prog: &Program,
-        desk: &mut D,
-        names: &mut N,
-    ) -> Result<(), AllocError>
+    fn begin_one(&mut self, alloc: Global, prog: &Program) -> Result<(), AllocError>
         requires fine { IsFineMachine prog.now self.old }
-        requires holding { Holding (D.fixed desk.old).caller (self.old.state.made + 1) (frames_of self.old.frames.items) (D.front desk.old) }
-        requires own { IsOwnCache prog.now (N.known names.old) (N.asked names.old) (D.fixed desk.old).caller (D.front desk.old) self.old.state.cache }
-        requires gives { self.old.gives ≡ false }
-        requires stops { self.old.stops ≡ false }
-        ensures begins { OnOk result (Begins prog.now (D.fixed desk.old).caller (N.known names.new) (N.asked names.old) (N.asked names.new) (D.front desk.old) (D.front desk.new) self.old self.new) }
+        requires begins { self.old.hand ≡ hands.Begins }
+        ensures begins { (c : ℕ) (known asked : List Name) (log : List Entry) → IsOwnCache prog.now known asked c log self.old.state.cache → OnOk result (Begins prog.now c known asked asked log log self.old self.new) }
         ensures calls { SameCalls self.old.state self.new.state }
-        ensures holding { Holding (D.fixed desk.old).caller (self.new.state.made + 1) (frames_of self.new.frames.items) (D.front desk.new) }
-        ensures stays { Stays (D.fixed desk.old) (D.fixed desk.new) (D.front desk.old) (D.front desk.new) (N.known names.old) (N.known names.new) }
-        ensures alike { N.alike names.old names.new }
+        ensures frames { self.new.frames ≡ self.old.frames }
         ensures caller { self.new.caller ≡ self.old.caller }
     {
-        self.conts.reserve(2)?;
-        let next = start(alloc, prog, desk, names, &mut self.state)?;
-        self.take_move(next);
+        self.hand = begin(alloc, prog, &mut self.state, &mut self.conts)?;
         Ok(())
     }
 
     // One beginning, and what follows.
+    #[inline(always)]
     fn begin_next<D: Desk, N: Names>(
         &mut self,
         alloc: Global,
@@ -251,8 +286,7 @@ impl Machine {
         requires fine { IsFineMachine prog.now self.old }
         requires holding { Holding (D.fixed desk.old).caller (self.old.state.made + 1) (frames_of self.old.frames.items) (D.front desk.old) }
         requires own { IsOwnCache prog.now (N.known names.old) (N.asked names.old) (D.fixed desk.old).caller (D.front desk.old) self.old.state.cache }
-        requires gives { self.old.gives ≡ false }
-        requires stops { self.old.stops ≡ false }
+        requires begins { self.old.hand ≡ hands.Begins }
         ensures begins { OnOk result (Begins prog.now (D.fixed desk.old).caller (N.known names.new) (N.asked names.old) (N.asked names.new) (D.front desk.old) (D.front desk.new) self.old self.new) }
         ensures rest { OnOk result (IsAtRest self.new) }
         ensures holding { Holding (D.fixed desk.old).caller (self.new.state.made + 1) (frames_of self.new.frames.items) (D.front desk.new) }
@@ -261,11 +295,12 @@ impl Machine {
         ensures alike { N.alike names.old names.new }
         ensures caller { self.new.caller ≡ self.old.caller }
     {
-        self.begin_one(alloc, prog, desk, names)?;
+        self.begin_one(alloc, prog)?;
         self.settle(alloc, prog, desk, names, share)
     }
 
     // Where nothing has begun, the first item of the block comes next, or the block has its value.
+    #[inline(always)]
     fn open(&mut self, prog: &Program) -> Result<(), AllocError>
         requires fine { IsFineMachine prog.now self.old }
         requires going { IsGoing self.old }
@@ -274,14 +309,28 @@ impl Machine {
         ensures frames { self.new.frames ≡ self.old.frames }
         ensures caller { self.new.caller ≡ self.old.caller }
     {
-        if !self.gives {
-            return Ok(());
+        match self.hand {
+            Hand::Gives => self.open_block(prog),
+            _ => Ok(()),
         }
-        self.conts.reserve(2)?;
+    }
+
+    // The block of a new machine begins.
+    #[cold]
+    #[inline(never)]
+    fn open_block(&mut self, prog: &Program) -> Result<(), AllocError>
+        requires fine { IsFineMachine prog.now self.old }
+        requires going { IsGoing self.old }
+        requires gives { self.old.hand ≡ hands.Gives }
+        ensures opens { OnOk result (Opens prog.now self.old self.new) }
+        ensures made { self.new.state.made ≡ self.old.state.made }
+        ensures frames { self.new.frames ≡ self.old.frames }
+        ensures caller { self.new.caller ≡ self.old.caller }
+    {
         match self.conts.pop() {
             Some(Cont::Items(block, at)) => {
                 let next = items(prog, block, at, &mut self.state);
-                self.take_move(next);
+                self.hand = take(&mut self.conts, next)?;
                 Ok(())
             }
             _ => unreachable!(),
@@ -289,17 +338,18 @@ impl Machine {
     }
 
     // Whether the script goes on.
+    #[inline(always)]
     fn turn(&self) -> Turn
-        ensures { result ≡ turn_of self.now.gives self.now.stops }
+        ensures { result ≡ turn_of self.now.hand }
     {
-        if self.gives || self.stops {
-            Turn::Ended
-        } else {
-            Turn::More
+        match self.hand {
+            Hand::Begins => Turn::More,
+            _ => Turn::Ended,
         }
     }
 
     // One beginning, and what follows, where the block has an expression.
+    #[inline(always)]
     fn run<D: Desk, N: Names>(
         &mut self,
         alloc: Global,
@@ -322,8 +372,9 @@ impl Machine {
         ensures caller { self.new.caller ≡ self.old.caller }
     {
         self.open(prog)?;
-        if self.gives || self.stops {
-            return Ok(Turn::Ended);
+        match self.hand {
+            Hand::Begins => {}
+            _ => return Ok(Turn::Ended),
         }
         self.begin_next(alloc, prog, desk, names, share)?;
         Ok(self.turn())
@@ -379,8 +430,7 @@ impl Machine {
             state,
             conts: _,
             frames: _,
-            gives: _,
-            stops,
+            hand,
         } = self;
         let State {
             operands: _,
@@ -401,7 +451,7 @@ impl Machine {
         } = state;
         ScriptRun {
             caller,
-            outcome: outcome(stops, stop, at, acc),
+            outcome: outcome(hand, stop, at, acc),
             output,
             calls: decided,
             own,

@@ -1,18 +1,15 @@
-//! How a `def` or a `type` begins whose name is plain, and how it goes on once its computed name is there.
+//! How a `def` or a `type` goes on.
 
 ghost use Rattle.std.specs.Prelude.{◌≡◌, ◌+◌, ◌<◌, ◌^◌, ℕ, length, IfOk, OnOk, MatchResult, None, Some};
 ghost use Rattle.std.specs.List.{AllByRecursion};
 ghost use Rattle.hb_tree.specs.Table.{Table};
-ghost use Rattle.hb_tree.specs.TreeAt.{tree_at};
-ghost use Rattle.hb_tree.specs.Canon.{bytes_at};
+ghost use Rattle.hb_tree.specs.TreeAt.{IsExprAt, tree_at};
 ghost use Rattle.hb_call.specs.Held.{stands};
 ghost use Rattle.hb_call.specs.Growth.{Grown};
 ghost use Rattle.hb_eval.specs.declared.cont.Cont.TheVariants as cont;
-ghost use Rattle.hb_eval.specs.State as meaning;
 ghost use Rattle.hb_eval.specs.Keeping.{KeepsOwn};
-ghost use Rattle.hb_eval.specs.Methods as methods;
 ghost use Rattle.hb_eval.specs.Machine.{method_named};
-ghost use Rattle.hb_eval.specs.Steps.{AreKnown, HasNoFrame, IsFed, IsFine, IsPlain, Keeps, SameCalls, Still, weigh_push};
+ghost use Rattle.hb_eval.specs.Steps.{AreKnown, IsComputed, IsFine, IsPlain, Keeps, Still, weigh_push};
 ghost use Rattle.hb_eval.specs.Tables.{ActsOn};
 ghost use Rattle.hb_eval.specs.Staying.{Stays};
 ghost use Rattle.hb_eval.specs.Naming.{IsNamed, StopsNamed};
@@ -55,93 +52,6 @@ pub(crate) fn known_type(prog: &Program, site: TypeSite) -> TypeSite
     site
 }
 
-/// A `def` with a plain name begins.
-#[inline(never)]
-pub(crate) fn begin_define<D: Desk, N: Names>(
-    alloc: Global,
-    prog: &Program,
-    desk: &mut D,
-    names: &mut N,
-    class: ClassId,
-    name: NameId,
-    site: BodySite,
-    state: &mut State,
-) -> Result<Move, AllocError>
-    requires name { name.0 < length prog.now.names }
-    requires site { site.0 < BODIES_MAX }
-    requires few { state.old.begun < 2 ^ 63 }
-    ensures acts { IfOk result (λ m. ActsOn (N.known names.new) (D.fixed desk.old).caller (D.front desk.old) (D.front desk.new)
-        (λ w s. meaning.begin state.old.at.0 s (λ s. methods.define w.names state.old.at.0 (class.0, bytes_at prog.now.names name.0) site.0 s)) state.old state.new m) }
-    ensures keeps { (t : Table) → IfOk result (Keeps t None state.old state.new) }
-    ensures known { (t : Table) → AreKnown t state.old → OnOk result (AreKnown t state.new) }
-    ensures plain { IfOk result (λ m. IsPlain m.under × IsPlain m.push) }
-    ensures begun { state.new.begun ≡ state.old.begun + 1 }
-    ensures fuel { IfOk result (λ m. IsFed m.stops state.old.fuel state.new.fuel) }
-    ensures calls { SameCalls state.old state.new }
-    ensures stays { Stays (D.fixed desk.old) (D.fixed desk.new) (D.front desk.old) (D.front desk.new) (N.known names.old) (N.known names.new) }
-    ensures others { (q : ℕ) → stands (D.fixed desk.old).caller q (D.front desk.new) ≡ stands (D.fixed desk.old).caller q (D.front desk.old) }
-    ensures grown { (t : Table) → OnOk result (Grown t (D.fixed desk.old).caller (N.known names.new) (N.asked names.old) (N.asked names.new) (D.front desk.old) (D.front desk.new)) }
-    ensures own { (t : Table) → OnOk result (KeepsOwn t (D.fixed desk.old).caller (N.known names.old) (N.known names.new) (N.asked names.old) (N.asked names.new) (D.front desk.old) (D.front desk.new) state.old.cache state.new.cache) }
-    ensures alike { N.alike names.old names.new }
-{
-    let id = state.at;
-    state.begun += 1;
-    if state.fuel == 0 {
-        return Ok(halt(state, Stop::Steps, id));
-    }
-    state.fuel -= 1;
-    define(alloc, desk, names, id, class, prog.name(name), site, state)
-}
-
-/// A `type` or a `type?` with a plain name begins.
-#[inline(never)]
-pub(crate) fn begin_declare<D: Desk, N: Names>(
-    alloc: Global,
-    prog: &Program,
-    desk: &mut D,
-    names: &mut N,
-    class: ClassId,
-    name: NameId,
-    site: TypeSite,
-    asks: bool,
-    state: &mut State,
-) -> Result<Move, AllocError>
-    requires name { name.0 < length prog.now.names }
-    requires site { site.0 < TYPES_MAX }
-    requires few { state.old.begun < 2 ^ 63 }
-    ensures acts { IfOk result (λ m. ActsOn (N.known names.new) (D.fixed desk.old).caller (D.front desk.old) (D.front desk.new)
-        (λ w s. meaning.begin state.old.at.0 s (λ s. methods.declare w.names state.old.at.0 asks (class.0, bytes_at prog.now.names name.0) site.0 s)) state.old state.new m) }
-    ensures keeps { (t : Table) → IfOk result (Keeps t None state.old state.new) }
-    ensures known { (t : Table) → AreKnown t state.old → OnOk result (AreKnown t state.new) }
-    ensures plain { IfOk result (λ m. IsPlain m.under × IsPlain m.push) }
-    ensures begun { state.new.begun ≡ state.old.begun + 1 }
-    ensures fuel { IfOk result (λ m. IsFed m.stops state.old.fuel state.new.fuel) }
-    ensures calls { SameCalls state.old state.new }
-    ensures stays { Stays (D.fixed desk.old) (D.fixed desk.new) (D.front desk.old) (D.front desk.new) (N.known names.old) (N.known names.new) }
-    ensures others { (q : ℕ) → stands (D.fixed desk.old).caller q (D.front desk.new) ≡ stands (D.fixed desk.old).caller q (D.front desk.old) }
-    ensures grown { (t : Table) → OnOk result (Grown t (D.fixed desk.old).caller (N.known names.new) (N.asked names.old) (N.asked names.new) (D.front desk.old) (D.front desk.new)) }
-    ensures own { (t : Table) → OnOk result (KeepsOwn t (D.fixed desk.old).caller (N.known names.old) (N.known names.new) (N.asked names.old) (N.asked names.new) (D.front desk.old) (D.front desk.new) state.old.cache state.new.cache) }
-    ensures alike { N.alike names.old names.new }
-{
-    let id = state.at;
-    state.begun += 1;
-    if state.fuel == 0 {
-        return Ok(halt(state, Stop::Steps, id));
-    }
-    state.fuel -= 1;
-    declare(
-        alloc,
-        desk,
-        names,
-        id,
-        class,
-        prog.name(name),
-        site,
-        asks,
-        state,
-    )
-}
-
 // The bytes of a value that is the name of a method.
 fn name_in(value: &Value) -> Result<&[u8], Stop>
     ensures { MatchResult result (λ bytes. IsNamed value.now bytes.now) (λ stop. StopsNamed value.now stop) }
@@ -159,9 +69,8 @@ fn name_in(value: &Value) -> Result<&[u8], Stop>
     }
 }
 
-/// The computed name of a method is there.
-#[inline(never)]
-pub(crate) fn method<D: Desk, N: Names>(
+// The computed name of a method is in hand.
+fn method_computed<D: Desk, N: Names>(
     alloc: Global,
     prog: &Program,
     desk: &mut D,
@@ -169,9 +78,9 @@ pub(crate) fn method<D: Desk, N: Names>(
     id: NodeId,
     state: &mut State,
 ) -> Result<Move, AllocError>
-    requires fine { IsFine prog.now (cont.Method id) }
+    requires fine { IsExprAt prog.now id.0 × IsComputed (tree_at prog.now id.0) }
     ensures acts { IfOk result (λ m. ActsOn (N.known names.new) (D.fixed desk.old).caller (D.front desk.old) (D.front desk.new)
-        (λ w s. method_named w (tree_at prog.now id.0) state.old.acc s) state.old state.new m) }
+        (λ w s. method_named (record w { program = prog.now }) (tree_at prog.now id.0) state.old.acc s) state.old state.new m) }
     ensures keeps { (t : Table) → IfOk result (Keeps t None state.old state.new) }
     ensures known { (t : Table) → AreKnown t state.old → OnOk result (AreKnown t state.new) }
     ensures plain { IfOk result (λ m. IsPlain m.under × IsPlain m.push) }
@@ -197,5 +106,58 @@ pub(crate) fn method<D: Desk, N: Names>(
             }
             _ => unreachable!(),
         },
+    }
+}
+
+/// A `def` or a `type` goes on, whose name is plain, or is in hand.
+#[inline(never)]
+pub(crate) fn method<D: Desk, N: Names>(
+    alloc: Global,
+    prog: &Program,
+    desk: &mut D,
+    names: &mut N,
+    id: NodeId,
+    state: &mut State,
+) -> Result<Move, AllocError>
+    requires fine { IsFine prog.now (cont.Method id) }
+    ensures acts { IfOk result (λ m. ActsOn (N.known names.new) (D.fixed desk.old).caller (D.front desk.old) (D.front desk.new)
+        (λ w s. method_named (record w { program = prog.now }) (tree_at prog.now id.0) state.old.acc s) state.old state.new m) }
+    ensures keeps { (t : Table) → IfOk result (Keeps t None state.old state.new) }
+    ensures known { (t : Table) → AreKnown t state.old → OnOk result (AreKnown t state.new) }
+    ensures plain { IfOk result (λ m. IsPlain m.under × IsPlain m.push) }
+    ensures light { IfOk result (λ m. weigh_push m.under < 1) }
+    ensures still { Still state.old state.new }
+    ensures stays { Stays (D.fixed desk.old) (D.fixed desk.new) (D.front desk.old) (D.front desk.new) (N.known names.old) (N.known names.new) }
+    ensures others { (q : ℕ) → stands (D.fixed desk.old).caller q (D.front desk.new) ≡ stands (D.fixed desk.old).caller q (D.front desk.old) }
+    ensures grown { (t : Table) → OnOk result (Grown t (D.fixed desk.old).caller (N.known names.new) (N.asked names.old) (N.asked names.new) (D.front desk.old) (D.front desk.new)) }
+    ensures own { (t : Table) → OnOk result (KeepsOwn t (D.fixed desk.old).caller (N.known names.old) (N.known names.new) (N.asked names.old) (N.asked names.new) (D.front desk.old) (D.front desk.new) state.old.cache state.new.cache) }
+    ensures alike { N.alike names.old names.new }
+{
+    match prog.node(id) {
+        Node::Def(Method::Named(class, name), site) => {
+            let site = known_body(prog, site);
+            define(alloc, desk, names, id, class, prog.name(name), site, state)
+        }
+        Node::Declare(Method::Named(class, name), site, asks) => {
+            let site = known_type(prog, site);
+            declare(
+                alloc,
+                desk,
+                names,
+                id,
+                class,
+                prog.name(name),
+                site,
+                asks,
+                state,
+            )
+        }
+        Node::Def(Method::Computed(_, _), _) => {
+            method_computed(alloc, prog, desk, names, id, state)
+        }
+        Node::Declare(Method::Computed(_, _), _, _) => {
+            method_computed(alloc, prog, desk, names, id, state)
+        }
+        _ => unreachable!(),
     }
 }

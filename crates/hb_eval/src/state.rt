@@ -39,11 +39,21 @@ pub struct State {
     pub cache: Cache,
 }
 
-/// What a step leaves to do: behind, and first once a value is there. Then whether a value is in hand, or a stop; else an expression begins.
+/// What comes next.
+#[derive(Clone, Copy, Debug, PartialEq, Eq)]
+pub enum Hand {
+    /// An expression begins.
+    Begins,
+    /// A value is in hand.
+    Gives,
+    /// The script stops.
+    Stops,
+}
+
+/// What a step leaves to do: behind, and first once a value is there. Then what comes next.
 #[derive(Clone, Copy, Debug)]
 pub struct Move {
     pub under: Option<Cont>,
     pub push: Option<Cont>,
-    pub gives: bool,
-    pub stops: bool,
+    pub hand: Hand,
 }

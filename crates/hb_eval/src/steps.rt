@@ -3,6 +3,7 @@
 ghost use Rattle.std.specs.Prelude.{◌≡◌, ◌+◌, ◌-◌, ◌<◌, ◌≤◌, ◌^◌, length, take, drop, ℕ, IfOk, OnOk, Some, None, true, false};
 ghost use Rattle.hb_tree.specs.Table.{Table};
 ghost use Rattle.hb_tree.specs.TreeAt.{IsExprAt, IsBlockAt, tree_at};
+ghost use Rattle.hb_eval.specs.declared.state.Hand.TheVariants as hands;
 ghost use Rattle.hb_eval.specs.declared.cont.Cont.TheVariants as cont;
 ghost use Rattle.hb_eval.specs.Values.{IsKnown};
 ghost use Rattle.hb_eval.specs.Machine.{meaning, items_from};
@@ -45,7 +46,7 @@ pub(crate) fn left(
     state: &mut State,
 ) -> Result<Move, AllocError>
     requires fine { IsExprAt prog.now right.0 }
-    ensures moves { IfOk result (λ m. InEach prog.now (Moves (Some (cont.Left id op right)) true state.old state.new m)) }
+    ensures moves { IfOk result (λ m. InEach prog.now (Moves (Some (cont.Left id op right)) hands.Gives state.old state.new m)) }
     ensures plain { IfOk result (λ m. IsPlain m.under × IsPlain m.push) }
     ensures steady { Steady state.old state.new }
     ensures known { AreKnown prog.now state.old → OnOk result (AreKnown prog.now state.new) }
@@ -67,7 +68,7 @@ pub(crate) fn right(
     state: &mut State,
 ) -> Result<Move, AllocError>
     requires operand { 1 ≤ length state.old.operands.items }
-    ensures moves { IfOk result (λ m. InEach prog.now (Moves (Some (cont.Right id op)) true state.old state.new m)) }
+    ensures moves { IfOk result (λ m. InEach prog.now (Moves (Some (cont.Right id op)) hands.Gives state.old state.new m)) }
     ensures plain { IfOk result (λ m. IsPlain m.under × IsPlain m.push) }
     ensures steady { Steady state.old state.new }
     ensures known { AreKnown prog.now state.old → OnOk result (AreKnown prog.now state.new) }
@@ -88,7 +89,7 @@ pub(crate) fn right(
 #[tactic(auto, using(crate::proofs::KnownLemmas::bound_known), unfolding(crate::specs::State::then_do))]
 pub(crate) fn assign(prog: &Program, name: NameId, state: &mut State) -> Result<Move, AllocError>
     requires base { state.old.base ≤ length state.old.vars.items }
-    ensures moves { IfOk result (λ m. InEach prog.now (Moves (Some (cont.Assign name)) true state.old state.new m)) }
+    ensures moves { IfOk result (λ m. InEach prog.now (Moves (Some (cont.Assign name)) hands.Gives state.old state.new m)) }
     ensures plain { IfOk result (λ m. IsPlain m.under × IsPlain m.push) }
     ensures steady { Steady state.old state.new }
     ensures known { AreKnown prog.now state.old → OnOk result (AreKnown prog.now state.new) }
@@ -103,7 +104,7 @@ pub(crate) fn assign(prog: &Program, name: NameId, state: &mut State) -> Result<
 #[inline(always)]
 #[tactic(auto, unfolding(crate::specs::State::then_do))]
 pub(crate) fn not(prog: &Program, state: &mut State) -> Move
-    ensures moves { InEach prog.now (Moves (Some cont.Not) true state.old state.new result) }
+    ensures moves { InEach prog.now (Moves (Some cont.Not) hands.Gives state.old state.new result) }
     ensures plain { IsPlain result.under × IsPlain result.push }
     ensures steady { Steady state.old state.new }
     ensures known { AreKnown prog.now state.old → AreKnown prog.now state.new }
@@ -117,7 +118,7 @@ pub(crate) fn not(prog: &Program, state: &mut State) -> Move
 #[tactic(auto, unfolding(crate::specs::State::then_do))]
 pub(crate) fn to_text(alloc: Global, prog: &Program, state: &mut State) -> Result<Move, AllocError>
     requires known { IsKnown prog.now state.old.acc }
-    ensures moves { IfOk result (λ m. InEach prog.now (Moves (Some cont.ToStr) true state.old state.new m)) }
+    ensures moves { IfOk result (λ m. InEach prog.now (Moves (Some cont.ToStr) hands.Gives state.old state.new m)) }
     ensures plain { IfOk result (λ m. IsPlain m.under × IsPlain m.push) }
     ensures steady { Steady state.old state.new }
     ensures known { AreKnown prog.now state.old → OnOk result (AreKnown prog.now state.new) }
@@ -136,7 +137,7 @@ pub(crate) fn print_value(
     state: &mut State,
 ) -> Result<Move, AllocError>
     requires known { IsKnown prog.now state.old.acc }
-    ensures moves { IfOk result (λ m. InEach prog.now (Moves (Some (cont.Print id)) true state.old state.new m)) }
+    ensures moves { IfOk result (λ m. InEach prog.now (Moves (Some (cont.Print id)) hands.Gives state.old state.new m)) }
     ensures plain { IfOk result (λ m. IsPlain m.under × IsPlain m.push) }
     ensures steady { Steady state.old state.new }
     ensures known { AreKnown prog.now state.old → OnOk result (AreKnown prog.now state.new) }

@@ -65,7 +65,20 @@ impl Value {
     }
 
     /// The same value once more. A text shares its bytes.
+    #[inline(always)]
     pub fn copied(&self) -> Result<Value, AllocError>
+        ensures { IfOk result (λ value. value ≡ self.now) }
+    {
+        match self {
+            // Numbers are most frequent.
+            Value::Int(number) => Ok(Value::Int(*number)),
+            _ => Ok(self.copied_apart()?),
+        }
+    }
+
+    // The same out of line.
+    #[inline(never)]
+    fn copied_apart(&self) -> Result<Value, AllocError>
         ensures { IfOk result (λ value. value ≡ self.now) }
     {
         match self {

@@ -1,23 +1,52 @@
 //! The variables of a frame, by their names.
 
 ghost use Rattle.std.specs.Prelude.{◌≡◌, ◌≤◌, length, drop, take, OnOk, IfOk, map, Some, None, Ok};
-ghost use Rattle.hb_eval.specs.State.{value_at, bind};
+ghost use Rattle.hb_eval.specs.State.{IsFetched, value_at, bind};
 
 use crate::value::Value;
 use hb_types::ids::NameId;
 use std::alloc::AllocError;
 
-/// The value of a variable once more, where it has one.
-pub(crate) fn value_of(vars: &[(NameId, Value)], name: NameId) -> Result<Option<Value>, AllocError>
-    ensures { IfOk result (λ found. found ≡ value_at vars.now name.0) }
+/// The value of a variable comes in hand, where it has one. Whether it has.
+#[inline(always)]
+pub(crate) fn fetch(
+    vars: &[(NameId, Value)],
+    name: NameId,
+    acc: &mut Value,
+) -> Result<bool, AllocError>
+    ensures { IfOk result (λ there. IsFetched there (value_at vars.now name.0) acc.old acc.new) }
 {
     for (known, value) in vars {
         if *known == name {
-            let copy = value.copied()?;
-            return Ok(Some(copy));
+            copy_into(value, acc)?;
+            return Ok(true);
         }
     }
-    Ok(None)
+    Ok(false)
+}
+
+// A value comes in hand once more.
+#[inline(always)]
+fn copy_into(value: &Value, acc: &mut Value) -> Result<(), AllocError>
+    ensures { OnOk result (acc.new ≡ value.now) }
+{
+    match value {
+        // Numbers are most frequent.
+        Value::Int(number) => {
+            *acc = Value::Int(*number);
+            Ok(())
+        }
+        _ => copy_apart(value, acc),
+    }
+}
+
+// The same out of line.
+#[inline(never)]
+fn copy_apart(value: &Value, acc: &mut Value) -> Result<(), AllocError>
+    ensures { OnOk result (acc.new ≡ value.now) }
+{
+    *acc = value.copied()?;
+    Ok(())
 }
 
 /// Gives a variable of the frame a value. The frame's variables are those from a place on.

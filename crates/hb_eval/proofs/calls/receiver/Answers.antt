@@ -2,30 +2,26 @@ use Rattle.std.proofs.Common.{◌≡◌, ◌-◌, ℕ, ◌∷◌, ◌++◌, [], 
 use Rattle.std.proofs.lemmas.Result.{IfOk-weaker}
 use Rattle.hb_tree.specs.TreeAt.{tree_at}
 use Rattle.hb_eval.specs.declared.state.State.{State}
-use Rattle.hb_eval.specs.declared.state.Move.{Move}
+use Rattle.hb_eval.specs.declared.state.Hand.{Hand}
 use Rattle.hb_eval.specs.Machine.{arguments_from}
 use Rattle.hb_eval.specs.Turns.{Reads, with_operands, after}
-use Rattle.hb_eval.proofs.ArgumentLemmas.{receiver_came}
+use Rattle.hb_eval.proofs.ArgumentLemmas.{receiver_came, turned_before}
 use Rattle.hb_eval.specs.Values.{IsKnown}
 use Rattle.hb_eval.proofs.GoesLemmas.{pushed_goes}
 use Rattle.hb_eval.proofs.TurnLemmas.{reads_before}
 use Rattle.hb_eval.proofs.calls.receiver.Goals as goal
 
-pub returns-clause-reads : goal.returns-clause-reads
-returns-clause-reads g c =
+pub returns-clause-turned : goal.returns-clause-turned
+returns-clause-turned g c =
     let t = c.args.prog.now in
     let old = c.args.state.now in
     let pushed = c.in_ok-push.ensures.items ∙ ap (λ v. old.operands.items ++ v ∷ []) c.replace-value.ensures.value in
     let mid : State = record old { operands = c.push.new.self; acc = c.replace-value.new.dest } in
     let at : length c.push.new.self.items - 0 - 1 ≡ length old.operands.items = omega (arith, ap length pushed, length-append old.operands.items (old.acc ∷ [])) in
-    IfOk-weaker c.next_argument.result _ _ (λ (m : Move) r. reads_before _ _ _ _ old mid c.next_argument.new.state _ _ _ refl refl refl
+    let frames = c.next_argument.new.frames.items in
+    let new = c.next_argument.new.state in
+    IfOk-weaker c.next_argument.result _ _ (λ (h : Hand) x. turned_before t _ _ _ _ 1 0 0 1 2 c.args.frames.now.items old mid frames new _ _ _ _ h
+    (λ m r. reads_before _ _ _ _ old mid new _ _ _ refl refl refl
     (receiver_came t c.args.id c.args.frames.now.items old mid c.push.new.self c.replace-value.new.dest pushed refl)
-    (subst (λ (n : ℕ). Reads (g.N.Names.known c.next_argument.new.names) (g.D.Desk.fixed c.args.desk.now).caller (g.D.Desk.front c.args.desk.now) (g.D.Desk.front c.next_argument.new.desk) mid c.next_argument.new.state (with_operands t n (λ w room vs s. arguments_from w room (tree_at t c.args.id.0) 0 vs s) c.args.frames.now.items mid) (after t m c.next_argument.new.frames.items c.next_argument.new.state)) at r)) c.next_argument.ensures.reads
-
-pub returns-clause-goes : goal.returns-clause-goes
-returns-clause-goes g c =
-    let t = c.args.prog.now in
-    let old = c.args.state.now in
-    let pushed = c.in_ok-push.ensures.items ∙ ap (λ v. old.operands.items ++ v ∷ []) c.replace-value.ensures.value in
-    let mid : State = record old { operands = c.push.new.self; acc = c.replace-value.new.dest } in
-    IfOk-weaker c.next_argument.result _ _ (λ (m : Move) r. pushed_goes t 0 1 c.args.frames.now.items old mid c.next_argument.new.frames.items c.next_argument.new.state m c.push.new.self c.replace-value.new.dest pushed refl (subst (IsKnown t) (sym c.replace-value.ensures.after) tt) r) c.next_argument.ensures.goes
+    (subst (λ (n : ℕ). Reads (g.N.Names.known c.next_argument.new.names) (g.D.Desk.fixed c.args.desk.now).caller (g.D.Desk.front c.args.desk.now) (g.D.Desk.front c.next_argument.new.desk) mid new (with_operands t n (λ w room vs s. arguments_from w room (tree_at t c.args.id.0) 0 vs s) c.args.frames.now.items mid) (after t m frames new)) at r))
+    (λ m r. pushed_goes t 0 1 c.args.frames.now.items old mid frames new m c.push.new.self c.replace-value.new.dest pushed refl (subst (IsKnown t) (sym c.replace-value.ensures.after) tt) r) x) c.next_argument.ensures.turned

@@ -4,14 +4,14 @@ use Rattle.hb_call.specs.GrowthLaws.{grown_itself}
 use Rattle.hb_eval.proofs.frames.pass.Goals as goal
 
 pub returns-in-Frame-clause-reads : goal.returns-in-Frame-clause-reads
-returns-in-Frame-clause-reads g c t known gives = rw c.in-Frame.is (leaves_stop known t gives _ _ _ _ _ _ _ c.end.ensures.leaves)
+returns-in-Frame-clause-reads g c t known = rw c.in-Frame.is (leaves_stop known t _ _ _ _ _ _ _ c.end.ensures.leaves)
 
 pub returns-in-Frame-clause-lowers : goal.returns-in-Frame-clause-lowers
 returns-in-Frame-clause-lowers g c t = rw c.in-Frame.is (leaves_lowers t _ _ _ _ _ _ _ c.end.ensures.leaves)
 
 pub returns-in_default-clause-reads : goal.returns-in_default-clause-reads
-returns-in_default-clause-reads g c t known gives =
-    passes_operands known t gives _ _ c.args.cont c.args.frames.now.items c.args.state.now _ c.truncate.new.self (c.len.result - c.needs.result) c.in_default.not-Frame refl c.truncate.ensures.items (omega (arith, c.requires.operands, c.len.ensures, c.args.state.now.operands.ok, c.needs.ensures))
+returns-in_default-clause-reads g c t known =
+    passes_operands known t _ _ c.args.cont c.args.frames.now.items c.args.state.now _ c.truncate.new.self (c.len.result - c.needs.result) c.in_default.not-Frame refl c.truncate.ensures.items (omega (arith, c.requires.operands, c.len.ensures, c.args.state.now.operands.ok, c.needs.ensures))
 
 pub returns-in_default-clause-lowers : goal.returns-in_default-clause-lowers
 returns-in_default-clause-lowers g c t =

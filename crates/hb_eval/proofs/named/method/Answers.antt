@@ -1,25 +1,13 @@
-use Rattle.std.proofs.Common.{refl, sym}
-use Rattle.std.proofs.lemmas.Result.{IfOk-weaker}
-use Rattle.hb_tree.specs.TreeAt.{tree_at}
-use Rattle.hb_tree.proofs.Trees.{id_of-tree_at}
-use Rattle.hb_eval.specs.declared.state.Move.{Move}
-use Rattle.hb_call.specs.GrowthLaws.{grown_itself}
-use Rattle.hb_eval.proofs.NamedLemmas.{keeps_from, unnamed_on, there}
+use Rattle.hb_call.proofs.EnteringLemmas.{bytes_found}
+use Rattle.hb_eval.proofs.NamedLemmas.{defined_on, declared_on}
 use Rattle.hb_eval.proofs.named.method.Goals as goal
 
-pub returns-in-Err-clause-acts : goal.returns-in-Err-clause-acts
-returns-in-Err-clause-acts g c =
-    unnamed_on _ _ _ c.args.id (tree_at c.args.prog.now c.args.id.0) c.replace-value.result c.in-Err.stop c.args.state.now (record c.args.state.now { acc = c.replace-value.new.dest }) _ _
-    c.requires.fine.1 (id_of-tree_at c.args.prog.now c.args.id.0) c.in-Err.ensures (sym c.replace-value.ensures.value) refl c.halt.ensures.state c.halt.ensures.value
+pub returns-in-Def-Named-default-clause-acts : goal.returns-in-Def-Named-default-clause-acts
+returns-in-Def-Named-default-clause-acts g c =
+    defined_on _ _ _ _ c.args.prog.now c.args.id.0 _ c.in-Def-Named-default.class c.in-Def-Named-default.name c.in-Def-Named-default.site _ c.name.result.now _ c.args.state.now _ c.define.result
+    c.in-Def-Named-default.ensures.tree c.in-Def-Named-default.field-0-is (bytes_found c.args.prog.now.names c.in-Def-Named-default.name.0 c.name.result.now c.name.ensures.value) c.known_body-site.ensures.same c.define.ensures.acts
 
-pub returns-in-Err-clause-grown : goal.returns-in-Err-clause-grown
-returns-in-Err-clause-grown g c t = grown_itself t _ _ _ _
-
-pub returns-in-Def-Computed-default-clause-keeps : goal.returns-in-Def-Computed-default-clause-keeps
-returns-in-Def-Computed-default-clause-keeps g c t = IfOk-weaker c.define.result _ _ (λ (m : Move) k. keeps_from t c.args.state.now _ _ m refl refl refl k) (c.define.ensures.keeps t)
-
-pub known_type-site-requires : goal.known_type-site-requires
-known_type-site-requires g c = there _ c.args.prog.now.types c.in-Declare-Computed-default-default.site.0 c.in-Declare-Computed-default-default.ensures.known.1
-
-pub returns-in-Declare-Computed-default-default-clause-keeps : goal.returns-in-Declare-Computed-default-default-clause-keeps
-returns-in-Declare-Computed-default-default-clause-keeps g c t = IfOk-weaker c.declare.result _ _ (λ (m : Move) k. keeps_from t c.args.state.now _ _ m refl refl refl k) (c.declare.ensures.keeps t)
+pub returns-in-Declare-Named-default-default-clause-acts : goal.returns-in-Declare-Named-default-default-clause-acts
+returns-in-Declare-Named-default-default-clause-acts g c =
+    declared_on _ _ _ _ c.args.prog.now c.args.id.0 _ c.in-Declare-Named-default-default.class c.in-Declare-Named-default-default.name c.in-Declare-Named-default-default.site _ c.in-Declare-Named-default-default.asks c.name-in-Declare-Named-default-default.result.now _ c.args.state.now _ c.declare.result
+    c.in-Declare-Named-default-default.ensures.tree c.in-Declare-Named-default-default.field-0-is (bytes_found c.args.prog.now.names c.in-Declare-Named-default-default.name.0 c.name-in-Declare-Named-default-default.result.now c.name-in-Declare-Named-default-default.ensures.value) c.known_type-site.ensures.same c.declare.ensures.acts

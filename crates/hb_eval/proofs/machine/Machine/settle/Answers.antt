@@ -1,64 +1,47 @@
-use Rattle.std.proofs.Common.{◌+◌, ◌∙◌, refl, subst, sym}
+use Rattle.std.proofs.Common.{◌+◌, refl, sym, subst}
 use Rattle.hb_tables.specs.Answers.{Fixed}
 use Rattle.hb_call.specs.OwnCache.{IsOwnCache}
 use Rattle.hb_eval.specs.Holding.{Holding, frames_of}
 use Rattle.hb_eval.specs.Machines.{Carries}
-use Rattle.hb_eval.proofs.StayingLemmas.{stays_itself, stays_on}
-use Rattle.hb_eval.proofs.AdvanceLemmas.{carries_held, carries_on}
-use Rattle.hb_eval.specs.Gathering.{Shares}
-use Rattle.hb_eval.proofs.GatheringLemmas.{shares_itself, shares_on}
+use Rattle.hb_eval.proofs.StayingLemmas.{prefix_itself, stays_on, stays_apart}
+use Rattle.hb_eval.proofs.AdvanceLemmas.{carries_on}
+use Rattle.hb_eval.proofs.GatheringLemmas.{shares_on, shares_quiet}
 use Rattle.hb_eval.proofs.machine.Machine.settle.Goals as goal
 
-pub steps-init : goal.steps-init
-steps-init g c = record {
-  carries = carries_held c.args.prog.now _ _ _ _ c.args.self.now c.args.self.now.conts refl c.requires.fine c.requires.own;
-  holding = c.requires.holding;
-  stays = stays_itself _ _ _;
-  shares = shares_itself _ _ _ _ _;
-  alike = g.N.Names.alike_itself c.args.names.now;
-  caller = refl;
+pub end_stop-requires : goal.end_stop-requires
+end_stop-requires g c = record {
+  fine = c.in_ok-steps.ensures.carries.fine;
+  settled = c.in_ok-steps.ensures.settled;
+  holding = subst (λ (z : Fixed). Holding z.caller (c.steps.new.self.state.made + 1) (frames_of c.steps.new.self.frames.items) (g.D.Desk.front c.steps.new.desk)) (sym c.steps.ensures.stays.fixed) c.steps.ensures.holding;
 }
-
-pub step-requires : goal.step-requires
-step-requires g c = record {
-  fine = c.steps.invariant.carries.fine;
-  own = subst (λ (z : Fixed). IsOwnCache c.args.prog.now (g.N.Names.known c.steps.names) (g.N.Names.asked c.steps.names) z.caller (g.D.Desk.front c.steps.desk) c.steps.self.state.cache) (sym c.steps.invariant.stays.fixed) c.steps.invariant.carries.own;
-  holding = subst (λ (z : Fixed). Holding z.caller (c.steps.self.state.made + 1) (frames_of c.steps.self.frames.items) (g.D.Desk.front c.steps.desk)) (sym c.steps.invariant.stays.fixed) c.steps.invariant.holding;
-}
-
-pub steps-preserved : goal.steps-preserved
-steps-preserved g c =
-    let inv = c.steps.invariant in
-    let who = (g.D.Desk.fixed c.args.desk.now).caller in
-    let same = inv.stays.fixed in
-    let s = c.in_ok-step.ensures in
-    record {
-      carries = carries_on c.args.prog.now who _ _ _ _ _ _ _ _ _ _ _ s.stays.named inv.carries
-          (subst (λ (z : Fixed). Carries c.args.prog.now z.caller (g.N.Names.known c.step.new.names) (g.N.Names.asked c.steps.names) (g.N.Names.asked c.step.new.names) (g.D.Desk.front c.steps.desk) (g.D.Desk.front c.step.new.desk) c.steps.self c.step.new.self) same s.carries);
-      holding = subst (λ (z : Fixed). Holding z.caller (c.step.new.self.state.made + 1) (frames_of c.step.new.self.frames.items) (g.D.Desk.front c.step.new.desk)) same s.holding;
-      stays = stays_on _ _ _ _ _ _ _ _ _ inv.stays s.stays;
-      shares = shares_on c.args.prog.now _ _ who _ _ _ _ _ _ s.stays.named inv.shares
-          (subst (λ (z : Fixed). Shares c.args.prog.now (g.N.Names.known c.step.new.names) z.caller (g.D.Desk.front c.steps.desk) (g.D.Desk.front c.step.new.desk) c.steps.share c.step.new.share) same s.shares);
-      alike = g.N.Names.alike_on _ _ _ inv.alike s.alike;
-      caller = s.caller ∙ inv.caller;
-    }
-
-pub returns-in_err-step-clause-stays : goal.returns-in_err-step-clause-stays
-returns-in_err-step-clause-stays g c = stays_on _ _ _ _ _ _ _ _ _ c.steps.invariant.stays c.step.ensures.stays
 
 pub returns-clause-carries : goal.returns-clause-carries
 returns-clause-carries g c =
-    let inv = c.steps.invariant in
-    let s = c.in_ok-step.ensures in
-    carries_on c.args.prog.now (g.D.Desk.fixed c.args.desk.now).caller _ _ _ _ _ _ _ _ _ _ _ s.stays.named inv.carries
-    (subst (λ (z : Fixed). Carries c.args.prog.now z.caller (g.N.Names.known c.step.new.names) (g.N.Names.asked c.steps.names) (g.N.Names.asked c.step.new.names) (g.D.Desk.front c.steps.desk) (g.D.Desk.front c.step.new.desk) c.steps.self c.step.new.self) inv.stays.fixed s.carries)
+    let t = c.args.prog.now in
+    let who = (g.D.Desk.fixed c.args.desk.now).caller in
+    let known = g.N.Names.known c.steps.new.names in
+    let asked = g.N.Names.asked c.steps.new.names in
+    let half = g.D.Desk.front c.steps.new.desk in
+    let now = g.D.Desk.front c.end_stop.new.desk in
+    let first = c.in_ok-steps.ensures.carries in
+    let own = subst (λ (z : Fixed). IsOwnCache t known asked z.caller half c.steps.new.self.state.cache) (sym c.steps.ensures.stays.fixed) first.own in
+    let then = subst (λ (z : Fixed). Carries t z.caller known asked asked half now c.steps.new.self c.end_stop.new.self) c.steps.ensures.stays.fixed (c.end_stop.ensures.unwinds known asked own) in
+    carries_on t who known known _ asked asked _ half now c.args.self.now c.steps.new.self c.end_stop.new.self (prefix_itself known) first then
+
+pub returns-clause-holding : goal.returns-clause-holding
+returns-clause-holding g c = subst (λ (z : Fixed). Holding z.caller (c.end_stop.new.self.state.made + 1) (frames_of c.end_stop.new.self.frames.items) (g.D.Desk.front c.end_stop.new.desk)) c.steps.ensures.stays.fixed c.end_stop.ensures.holding
 
 pub returns-clause-stays : goal.returns-clause-stays
-returns-clause-stays g c = stays_on _ _ _ _ _ _ _ _ _ c.steps.invariant.stays c.step.ensures.stays
+returns-clause-stays g c = stays_on _ _ _ _ _ _ _ _ _ c.steps.ensures.stays (stays_apart _ _ _ _ _ c.end_stop.ensures.fixed c.end_stop.ensures.kept c.end_stop.ensures.legal)
 
 pub returns-clause-shares : goal.returns-clause-shares
 returns-clause-shares g c =
-    let inv = c.steps.invariant in
-    let s = c.in_ok-step.ensures in
-    shares_on c.args.prog.now _ _ (g.D.Desk.fixed c.args.desk.now).caller _ _ _ _ _ _ s.stays.named inv.shares
-    (subst (λ (z : Fixed). Shares c.args.prog.now (g.N.Names.known c.step.new.names) z.caller (g.D.Desk.front c.steps.desk) (g.D.Desk.front c.step.new.desk) c.steps.share c.step.new.share) inv.stays.fixed s.shares)
+    let t = c.args.prog.now in
+    let who = (g.D.Desk.fixed c.args.desk.now).caller in
+    let known = g.N.Names.known c.steps.new.names in
+    let asked = g.N.Names.asked c.steps.new.names in
+    let half = g.D.Desk.front c.steps.new.desk in
+    let now = g.D.Desk.front c.end_stop.new.desk in
+    let own = subst (λ (z : Fixed). IsOwnCache t known asked z.caller half c.steps.new.self.state.cache) (sym c.steps.ensures.stays.fixed) c.in_ok-steps.ensures.carries.own in
+    let then = subst (λ (z : Fixed). Carries t z.caller known asked asked half now c.steps.new.self c.end_stop.new.self) c.steps.ensures.stays.fixed (c.end_stop.ensures.unwinds known asked own) in
+    shares_on t known known who _ half now _ _ _ (prefix_itself known) c.in_ok-steps.ensures.shares (shares_quiet t known known who half now c.steps.new.self.state c.end_stop.new.self.state _ _ c.steps.new.share c.steps.new.share then.reads c.end_stop.ensures.calls.fresh refl)
