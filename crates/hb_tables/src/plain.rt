@@ -174,11 +174,8 @@ impl PlainTables {
             ty: state.ty,
             changes: state.changes,
         };
+        states[key.0 as usize].pins += 1;
         *owed += 1;
-        states[key.0 as usize] = KeyState {
-            pins: state.pins + 1,
-            ..state
-        };
         history.push_reserved(Entry {
             caller: *caller,
             act: Act::Hold {
@@ -207,12 +204,8 @@ impl PlainTables {
             caller,
             ..
         } = self;
-        let state = states[key.0 as usize];
+        states[key.0 as usize].pins -= 1;
         *owed -= 1;
-        states[key.0 as usize] = KeyState {
-            pins: state.pins - 1,
-            ..state
-        };
         history.push_reserved(Entry {
             caller: *caller,
             act: Act::Free { q, key },
