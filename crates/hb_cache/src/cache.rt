@@ -1,6 +1,6 @@
 //! The checks of a script, by key.
 
-ghost use Rattle.std.specs.Prelude.{◌≡◌, ℕ, ◌<◌, ◌==◌, true, vec_len, if◌then◌else◌, [], Some, None, option_copied, OnOk, OnErr};
+ghost use Rattle.std.specs.Prelude.{◌≡◌, ℕ, ◌<◌, ◌≤◌, ◌==◌, true, vec_len, vec_capacity, if◌then◌else◌, [], Some, None, option_copied, IfOk, OnOk, OnErr};
 ghost use Rattle.hb_cache.specs.declared.kept.Kept.{Kept};
 ghost use Rattle.hb_cache.specs.Cache.{SameItems, with_item, without_item, without_key_used};
 ghost use Rattle.hb_cache.specs.Held.{has, KeepHad, IsKnown, KeepKnown, AreKnown, IsCache};
@@ -17,6 +17,8 @@ pub struct Cache {
     kept: Vec<Option<Kept>>,
     /// By key, those whose kept check may have used the key's type.
     users: Vec<Vec<KeyId>>,
+    /// Empty lists of calls that ended, for the keys of the next ones.
+    spare: Vec<Vec<KeyId>>,
 }
 
 impl Model for Cache {
@@ -39,6 +41,7 @@ impl Cache {
         Cache {
             kept: Vec::new(alloc),
             users: Vec::new(alloc),
+            spare: Vec::new(alloc),
         }
     }
 
@@ -92,6 +95,30 @@ impl Cache {
         ensures items { SameItems (items_in self.new) (without_item key.0 (items_in self.old)) }
     {
         forget(&mut self.kept, key);
+    }
+
+    /// An empty list with room for so many keys: one that was given back, where it has the room, or a new one.
+    #[inline(always)]
+    pub fn lend(&mut self, alloc: Global, count: usize) -> Result<Vec<KeyId>, AllocError>
+        ensures kept { self.new ≡ self.old }
+        ensures empty { IfOk result (λ list. list.items ≡ []) }
+        ensures room { IfOk result (λ list. count ≤ vec_capacity list) }
+    {
+        match self.spare.pop() {
+            Some(mut list) if list.capacity() >= count => {
+                list.clear();
+                Ok(list)
+            }
+            _ => Vec::with_capacity(alloc, count),
+        }
+    }
+
+    /// Takes a list back, for a call to come.
+    #[inline(always)]
+    pub fn give_back(&mut self, list: Vec<KeyId>)
+        ensures kept { self.new ≡ self.old }
+    {
+        let _ = self.spare.push(list);
     }
 }
 

@@ -58,7 +58,8 @@ pub fn enter<D: Desk, N: Names>(
     ensures collects { Collects prog.now (N.known names.new) (stands (D.fixed desk.old).caller q.0 (D.front desk.new)) cache.new share.old share.new result }
 {
     let key = names.key(alloc, class, prog.name(name))?;
-    let mut held = Vec::with_capacity(alloc, cache.width(key).saturating_add(1))?;
+    let width = cache.width(key).saturating_add(1);
+    let mut held = cache.lend(alloc, width)?;
     desk.reserve(alloc, 2)?;
     held.push_reserved(key);
     let own = desk.hold(q, key);

@@ -11,6 +11,7 @@ ghost use Rattle.hb_names.specs.Names.{Name};
 ghost use Rattle.hb_call.specs.Growth.{Grown};
 ghost use Rattle.hb_call.specs.Held.{HasCall, HasRoom, Holds, MayFree, frees, stands};
 
+use hb_cache::Cache;
 use hb_check::lookup::LookFail;
 use hb_names::NameFail;
 use hb_tables::desk::Desk;
@@ -109,6 +110,24 @@ pub fn leave<D: Desk>(frame: Frame, desk: &mut D)
     ensures fixed { D.fixed desk.new ≡ D.fixed desk.old }
 {
     free_keys(desk, frame.q, &frame.held);
+}
+
+/// Ends a frame as `leave` does, and keeps its list for the calls to come.
+pub fn leave_lent<D: Desk>(frame: Frame, desk: &mut D, cache: &mut Cache)
+    requires held { Holds (D.fixed desk.old).caller frame.q.0 frame.held.items (D.front desk.old) }
+    ensures acts { acts (D.fixed desk.old).caller (D.front desk.new) ≡ acts (D.fixed desk.old).caller (D.front desk.old) ++ frees frame.q frame.held.items }
+    ensures none { stands (D.fixed desk.old).caller frame.q.0 (D.front desk.new) ≡ [] }
+    ensures kept { IsPrefix (D.front desk.old) (D.front desk.new) }
+    ensures legal { IsLegal (D.fixed desk.old).limit (D.front desk.old) → IsLegal (D.fixed desk.old).limit (D.front desk.new) }
+    ensures others { (p : ℕ) → (p ≡ frame.q.0 → ⊥) → stands (D.fixed desk.old).caller p (D.front desk.new) ≡ stands (D.fixed desk.old).caller p (D.front desk.old) }
+    ensures grown { (t : Table) (names asked : List Name) → HasCall (D.fixed desk.old).caller frame.q.0 (D.front desk.old) → Grown t (D.fixed desk.old).caller names asked asked (D.front desk.old) (D.front desk.new) }
+    ensures own { (t : Table) (names asked : List Name) (cache : List (Option Kept)) → IsOwnCache t names asked (D.fixed desk.old).caller (D.front desk.old) cache → IsOwnCache t names asked (D.fixed desk.old).caller (D.front desk.new) cache }
+    ensures fixed { D.fixed desk.new ≡ D.fixed desk.old }
+    ensures cache { cache.new ≡ cache.old }
+{
+    let Frame { q, held, .. } = frame;
+    free_keys(desk, q, &held);
+    cache.give_back(held);
 }
 
 /// A call gives these keys back, in their order.

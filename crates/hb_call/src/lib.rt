@@ -11,5 +11,5 @@ mod ruling;
 mod share;
 
 pub use entering::enter;
-pub use frame::{CallFail, Entered, Frame, leave};
+pub use frame::{CallFail, Entered, Frame, leave, leave_lent};
 pub use share::{COLLECTED_MAX, Share};

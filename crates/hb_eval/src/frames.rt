@@ -19,7 +19,7 @@ use crate::cont::Cont;
 use crate::framed::Framed;
 use crate::moves::in_hand;
 use crate::state::{Move, State};
-use hb_call::leave;
+use hb_call::leave_lent;
 use hb_tables::desk::Desk;
 
 // A frame ends: its call gives its keys back, and the caller's variables and class are there again.
@@ -38,7 +38,7 @@ fn end<D: Desk>(desk: &mut D, state: &mut State, frames: &mut Vec<Framed>)
     match frames.pop() {
         None => unreachable!(),
         Some(Framed { frame, base, class }) => {
-            leave(frame, desk);
+            leave_lent(frame, desk, &mut state.cache);
             state.vars.truncate(state.base);
             state.base = base;
             state.class = class;

@@ -52,7 +52,7 @@ returns-in_err-ended-clause-marks g c =
 pub returns-in_err-ended-clause-collects : goal.returns-in_err-ended-clause-collects
 returns-in_err-ended-clause-collects g c =
     let hs = stands (g.D.Desk.fixed c.args.desk.now).caller c.args.q.0 (g.D.Desk.front c.desk-1.given.0) in
-    as_err (λ (x : Result Entered CallFail). Collects c.args.prog.now (g.N.Names.known c.names-1.given.0) hs c.args.cache.now c.args.share.now c.args.share.now x) c.from_residual-in_err-ended.result c.in_err-ended.field-0.0 c.from_residual-in_err-ended.ensures.1 refl
+    as_err (λ (x : Result Entered CallFail). Collects c.args.prog.now (g.N.Names.known c.names-1.given.0) hs c.lend.new.self c.args.share.now c.args.share.now x) c.from_residual-in_err-ended.result c.in_err-ended.field-0.0 c.from_residual-in_err-ended.ensures.1 refl
 
 pub finish-requires : goal.finish-requires
 finish-requires g c =
@@ -63,19 +63,19 @@ finish-requires g c =
     let seen = rw (c.hold-own.ensures.fixed, c.reserve.ensures.fixed) at c.look-look.ensures.seen in
     let later : IsLegal door.limit look = rw (c.hold-own.ensures.fixed, c.reserve.ensures.fixed) at c.look-look.ensures.legal in
     let fixed : g.D.Desk.fixed c.look-look.new.self ≡ door = c.look-look.ensures.fixed ∙ c.hold-own.ensures.fixed ∙ c.reserve.ensures.fixed in
-    let given : Given = record { t = c.args.prog.now; door = door; q = c.args.q; key = key; own = own; class = c.args.class; args = c.args.args; cache = c.args.cache.now; desk = 0; names = 0; answers = 0 } in
+    let given : Given = record { t = c.args.prog.now; door = door; q = c.args.q; key = key; own = own; class = c.args.class; args = c.args.args; cache = c.lend.new.self; desk = 0; names = 0; answers = 0 } in
     let first = begins given (g.N.Names.known c.args.names.now) (g.N.Names.asked c.args.names.now) known asked old mid look (c.args.class.0, c.name.result.now) own
     c.key.ensures.kept c.key.ensures.few c.key.ensures.differ c.in_ok-key.ensures.key c.in_ok-key.ensures.asked adds legal c.requires.unused seen.0 later in
     let low : key.0 < NAMES_MAX = let a = c.in_ok-key.ensures.below in let b = c.key.ensures.few in omega (arith, a, b) in
     let asks : IsAskedFor known asked key.0 = subst (λ m. IsAskedFor known m key.0) (sym c.in_ok-key.ensures.asked) (asked_now known (g.N.Names.asked c.args.names.now) (c.args.class.0, c.name.result.now) key.0 c.in_ok-key.ensures.key) in
     let start = started c.args.prog.now door c.args.q known asked old mid key own adds legal c.requires.unused c.requires.room low asks in
     record {
-      calling = rw (c.look-look.ensures.fixed, c.hold-own.ensures.fixed, c.reserve.ensures.fixed, c.push_reserved.ensures.items, c.in_ok-held.ensures.items, c.new-answers.ensures.items, c.new-compared.ensures.items)
+      calling = rw (c.look-look.ensures.fixed, c.hold-own.ensures.fixed, c.reserve.ensures.fixed, c.push_reserved.ensures.items, c.in_ok-held.ensures.empty, c.new-answers.ensures.items, c.new-compared.ensures.items)
           (learned c.args.prog.now door c.args.q known asked mid key own _ _ start look seen.0 later);
       args = c.requires.args;
       fresh = (c.new-answers.ensures.items, c.new-compared.ensures.items, refl);
       named = (c.name.result.now, c.in_ok-key.ensures.key);
-      own = rw (c.look-look.ensures.fixed, c.hold-own.ensures.fixed, c.reserve.ensures.fixed) (goes_own given (at (g.N.Names.known c.args.names.now) (g.N.Names.asked c.args.names.now) old) (at known asked look) c.args.cache.now first c.requires.cache);
+      own = rw (c.look-look.ensures.fixed, c.hold-own.ensures.fixed, c.reserve.ensures.fixed) (goes_own given (at (g.N.Names.known c.args.names.now) (g.N.Names.asked c.args.names.now) old) (at known asked look) c.lend.new.self first (rw c.lend.ensures.kept c.requires.cache));
       few = c.key.ensures.few;
       looked = rw (c.look-look.ensures.fixed, c.hold-own.ensures.fixed, c.reserve.ensures.fixed) (looked_first door.caller c.args.q old mid look key own.ty own.changes c.look-look.result adds c.requires.unused seen.0 seen.1);
     }
@@ -123,7 +123,7 @@ returns-in_err-ended-clause-grown g c told =
     let seen = rw (c.hold-own.ensures.fixed, c.reserve.ensures.fixed) at c.look-look.ensures.seen in
     let later : IsLegal door.limit look = rw (c.hold-own.ensures.fixed, c.reserve.ensures.fixed) at c.look-look.ensures.legal in
     let fixed : g.D.Desk.fixed c.look-look.new.self ≡ door = c.look-look.ensures.fixed ∙ c.hold-own.ensures.fixed ∙ c.reserve.ensures.fixed in
-    let given : Given = record { t = c.args.prog.now; door = door; q = c.args.q; key = key; own = own; class = c.args.class; args = c.args.args; cache = c.args.cache.now; desk = 0; names = 0; answers = 0 } in
+    let given : Given = record { t = c.args.prog.now; door = door; q = c.args.q; key = key; own = own; class = c.args.class; args = c.args.args; cache = c.lend.new.self; desk = 0; names = 0; answers = 0 } in
     let first = begins given (g.N.Names.known c.args.names.now) (g.N.Names.asked c.args.names.now) known asked old mid look (c.args.class.0, c.name.result.now) own
     c.key.ensures.kept c.key.ensures.few c.key.ensures.differ c.in_ok-key.ensures.key c.in_ok-key.ensures.asked adds legal c.requires.unused seen.0 later in
     let cause = c.in_err-ended.field-0.0 in
@@ -145,7 +145,7 @@ returns-in_err-ended-clause-cache g c told =
     let seen = rw (c.hold-own.ensures.fixed, c.reserve.ensures.fixed) at c.look-look.ensures.seen in
     let later : IsLegal door.limit look = rw (c.hold-own.ensures.fixed, c.reserve.ensures.fixed) at c.look-look.ensures.legal in
     let fixed : g.D.Desk.fixed c.look-look.new.self ≡ door = c.look-look.ensures.fixed ∙ c.hold-own.ensures.fixed ∙ c.reserve.ensures.fixed in
-    let known2 = g.N.Names.known c.finish.new.self.names.now in let asked2 = g.N.Names.asked c.finish.new.self.names.now in let end = g.D.Desk.front c.finish.new.self.desk.now in let cache = c.args.cache.now in let t = c.args.prog.now in
+    let known2 = g.N.Names.known c.finish.new.self.names.now in let asked2 = g.N.Names.asked c.finish.new.self.names.now in let end = g.D.Desk.front c.finish.new.self.desk.now in let cache = c.lend.new.self in let t = c.args.prog.now in
     let own2 = subst (λ (d : Fixed). IsOwnCache t known2 asked2 d.caller end cache) fixed c.in_err-ended.ensures.own in
     subst (λ (m : g.row.N.Denot). IsOwnCache t (g.N.Names.known m) (g.N.Names.asked m) door.caller (g.D.Desk.front c.desk-1.given.0) cache) names
     (subst (λ (d : g.row.D.Denot). IsOwnCache t known2 asked2 door.caller (g.D.Desk.front d) cache) desk own2)
@@ -161,7 +161,7 @@ returns-in_err-ended-clause-others g c p other =
     let seen = rw (c.hold-own.ensures.fixed, c.reserve.ensures.fixed) at c.look-look.ensures.seen in
     let later : IsLegal door.limit look = rw (c.hold-own.ensures.fixed, c.reserve.ensures.fixed) at c.look-look.ensures.legal in
     let fixed : g.D.Desk.fixed c.look-look.new.self ≡ door = c.look-look.ensures.fixed ∙ c.hold-own.ensures.fixed ∙ c.reserve.ensures.fixed in
-    let given : Given = record { t = c.args.prog.now; door = door; q = c.args.q; key = key; own = own; class = c.args.class; args = c.args.args; cache = c.args.cache.now; desk = 0; names = 0; answers = 0 } in
+    let given : Given = record { t = c.args.prog.now; door = door; q = c.args.q; key = key; own = own; class = c.args.class; args = c.args.args; cache = c.lend.new.self; desk = 0; names = 0; answers = 0 } in
     let first = begins given (g.N.Names.known c.args.names.now) (g.N.Names.asked c.args.names.now) known asked old mid look (c.args.class.0, c.name.result.now) own
     c.key.ensures.kept c.key.ensures.few c.key.ensures.differ c.in_ok-key.ensures.key c.in_ok-key.ensures.asked adds legal c.requires.unused seen.0 later in
     let end = g.D.Desk.front c.finish.new.self.desk.now in
@@ -230,7 +230,7 @@ returns-clause-kept g c =
     let seen = rw (c.hold-own.ensures.fixed, c.reserve.ensures.fixed) at c.look-look.ensures.seen in
     let later : IsLegal door.limit look = rw (c.hold-own.ensures.fixed, c.reserve.ensures.fixed) at c.look-look.ensures.legal in
     let fixed : g.D.Desk.fixed c.look-look.new.self ≡ door = c.look-look.ensures.fixed ∙ c.hold-own.ensures.fixed ∙ c.reserve.ensures.fixed in
-    let given : Given = record { t = c.args.prog.now; door = door; q = c.args.q; key = key; own = own; class = c.args.class; args = c.args.args; cache = c.args.cache.now; desk = 0; names = 0; answers = 0 } in
+    let given : Given = record { t = c.args.prog.now; door = door; q = c.args.q; key = key; own = own; class = c.args.class; args = c.args.args; cache = c.lend.new.self; desk = 0; names = 0; answers = 0 } in
     let first = begins given (g.N.Names.known c.args.names.now) (g.N.Names.asked c.args.names.now) known asked old mid look (c.args.class.0, c.name.result.now) own
     c.key.ensures.kept c.key.ensures.few c.key.ensures.differ c.in_ok-key.ensures.key c.in_ok-key.ensures.asked adds legal c.requires.unused seen.0 later in
     let end = g.D.Desk.front c.finish.new.self.desk.now in let new = g.D.Desk.front c.keep.new.desk in
@@ -247,7 +247,7 @@ returns-clause-grown g c told =
     let seen = rw (c.hold-own.ensures.fixed, c.reserve.ensures.fixed) at c.look-look.ensures.seen in
     let later : IsLegal door.limit look = rw (c.hold-own.ensures.fixed, c.reserve.ensures.fixed) at c.look-look.ensures.legal in
     let fixed : g.D.Desk.fixed c.look-look.new.self ≡ door = c.look-look.ensures.fixed ∙ c.hold-own.ensures.fixed ∙ c.reserve.ensures.fixed in
-    let given : Given = record { t = c.args.prog.now; door = door; q = c.args.q; key = key; own = own; class = c.args.class; args = c.args.args; cache = c.args.cache.now; desk = 0; names = 0; answers = 0 } in
+    let given : Given = record { t = c.args.prog.now; door = door; q = c.args.q; key = key; own = own; class = c.args.class; args = c.args.args; cache = c.lend.new.self; desk = 0; names = 0; answers = 0 } in
     let first = begins given (g.N.Names.known c.args.names.now) (g.N.Names.asked c.args.names.now) known asked old mid look (c.args.class.0, c.name.result.now) own
     c.key.ensures.kept c.key.ensures.few c.key.ensures.differ c.in_ok-key.ensures.key c.in_ok-key.ensures.asked adds legal c.requires.unused seen.0 later in
     let e = c.in_ok-ended.ended in let end = g.D.Desk.front c.finish.new.self.desk.now in let new = g.D.Desk.front c.keep.new.desk in
@@ -275,7 +275,7 @@ returns-clause-others g c p other =
     let seen = rw (c.hold-own.ensures.fixed, c.reserve.ensures.fixed) at c.look-look.ensures.seen in
     let later : IsLegal door.limit look = rw (c.hold-own.ensures.fixed, c.reserve.ensures.fixed) at c.look-look.ensures.legal in
     let fixed : g.D.Desk.fixed c.look-look.new.self ≡ door = c.look-look.ensures.fixed ∙ c.hold-own.ensures.fixed ∙ c.reserve.ensures.fixed in
-    let given : Given = record { t = c.args.prog.now; door = door; q = c.args.q; key = key; own = own; class = c.args.class; args = c.args.args; cache = c.args.cache.now; desk = 0; names = 0; answers = 0 } in
+    let given : Given = record { t = c.args.prog.now; door = door; q = c.args.q; key = key; own = own; class = c.args.class; args = c.args.args; cache = c.lend.new.self; desk = 0; names = 0; answers = 0 } in
     let first = begins given (g.N.Names.known c.args.names.now) (g.N.Names.asked c.args.names.now) known asked old mid look (c.args.class.0, c.name.result.now) own
     c.key.ensures.kept c.key.ensures.few c.key.ensures.differ c.in_ok-key.ensures.key c.in_ok-key.ensures.asked adds legal c.requires.unused seen.0 later in
     let e = c.in_ok-ended.ended in let end = g.D.Desk.front c.finish.new.self.desk.now in let new = g.D.Desk.front c.keep.new.desk in
@@ -307,7 +307,7 @@ returns-clause-cache g c told =
     subst (λ (d : Fixed). IfErr c.keep.result (λ x. (x ≡ fail.NoMemory) × IsUndone d.caller end new e)) ending
     (subst (λ (d : g.row.D.Denot). IfErr c.keep.result (λ x. (x ≡ fail.NoMemory) × IsUndone (g.D.Desk.fixed d).caller (g.D.Desk.front d) new e)) (sym desk) c.keep.ensures.undone) in
     let t = c.args.prog.now in let known2 = g.N.Names.known c.finish.new.self.names.now in let asked2 = g.N.Names.asked c.finish.new.self.names.now in
-    let call : Given = record { t = t; door = g.D.Desk.fixed c.look-look.new.self; q = c.args.q; key = key; own = own; class = c.args.class; args = c.args.args; cache = c.args.cache.now; desk = c.call-1.given; names = c.call-2-1.given; answers = c.answers-1.given.0 } in
+    let call : Given = record { t = t; door = g.D.Desk.fixed c.look-look.new.self; q = c.args.q; key = key; own = own; class = c.args.class; args = c.args.args; cache = c.lend.new.self; desk = c.call-1.given; names = c.call-2-1.given; answers = c.answers-1.given.0 } in
     let said : c.finish.new.self.answers.now ≡ c.answers-2-1.given.0 = search rules in
     let answers : c.finish.new.self.answers.now.items ≡ c.deref.result.now = rw (c.deref.ensures.value, sym said) refl in
     let same : call.door ≡ g.D.Desk.fixed c.desk-1.given.0 = subst (λ (d : g.row.D.Denot). call.door ≡ g.D.Desk.fixed d) desk (sym c.finish.ensures.fixed) in
@@ -329,7 +329,7 @@ returns-clause-collects g c =
     let fixed : g.D.Desk.fixed c.look-look.new.self ≡ door = c.look-look.ensures.fixed ∙ c.hold-own.ensures.fixed ∙ c.reserve.ensures.fixed in
     let e = c.in_ok-ended.ended in let end = g.D.Desk.front c.finish.new.self.desk.now in let new = g.D.Desk.front c.keep.new.desk in
     let t = c.args.prog.now in let known2 = g.N.Names.known c.finish.new.self.names.now in let asked2 = g.N.Names.asked c.finish.new.self.names.now in
-    let call : Given = record { t = t; door = g.D.Desk.fixed c.look-look.new.self; q = c.args.q; key = key; own = own; class = c.args.class; args = c.args.args; cache = c.args.cache.now; desk = c.call-1.given; names = c.call-2-1.given; answers = c.answers-1.given.0 } in
+    let call : Given = record { t = t; door = g.D.Desk.fixed c.look-look.new.self; q = c.args.q; key = key; own = own; class = c.args.class; args = c.args.args; cache = c.lend.new.self; desk = c.call-1.given; names = c.call-2-1.given; answers = c.answers-1.given.0 } in
     let said : c.finish.new.self.answers.now ≡ c.answers-2-1.given.0 = search rules in
     let answers : c.finish.new.self.answers.now.items ≡ c.deref.result.now = rw (c.deref.ensures.value, sym said) refl in
     let same : call.door ≡ g.D.Desk.fixed c.desk-1.given.0 = subst (λ (d : g.row.D.Denot). call.door ≡ g.D.Desk.fixed d) desk (sym c.finish.ensures.fixed) in
@@ -348,7 +348,7 @@ returns-clause-marks g c =
     let seen = rw (c.hold-own.ensures.fixed, c.reserve.ensures.fixed) at c.look-look.ensures.seen in
     let later : IsLegal door.limit look = rw (c.hold-own.ensures.fixed, c.reserve.ensures.fixed) at c.look-look.ensures.legal in
     let fixed : g.D.Desk.fixed c.look-look.new.self ≡ door = c.look-look.ensures.fixed ∙ c.hold-own.ensures.fixed ∙ c.reserve.ensures.fixed in
-    let given : Given = record { t = c.args.prog.now; door = door; q = c.args.q; key = key; own = own; class = c.args.class; args = c.args.args; cache = c.args.cache.now; desk = 0; names = 0; answers = 0 } in
+    let given : Given = record { t = c.args.prog.now; door = door; q = c.args.q; key = key; own = own; class = c.args.class; args = c.args.args; cache = c.lend.new.self; desk = 0; names = 0; answers = 0 } in
     let first = begins given (g.N.Names.known c.args.names.now) (g.N.Names.asked c.args.names.now) known asked old mid look (c.args.class.0, c.name.result.now) own
     c.key.ensures.kept c.key.ensures.few c.key.ensures.differ c.in_ok-key.ensures.key c.in_ok-key.ensures.asked adds legal c.requires.unused seen.0 later in
     let e = c.in_ok-ended.ended in let end = g.D.Desk.front c.finish.new.self.desk.now in let new = g.D.Desk.front c.keep.new.desk in
