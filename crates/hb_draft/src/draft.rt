@@ -580,6 +580,3 @@ impl Draft {
         Ok(())
     }
 }
-
-#[cfg(test)]
-mod tests;

@@ -134,6 +134,3 @@ impl<'t> Course<'t> {
         Ok(Step::Done)
     }
 }
-
-#[cfg(test)]
-mod tests;

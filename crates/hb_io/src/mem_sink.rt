@@ -78,26 +78,3 @@ impl Sink for MemSink {
         Ok(count)
     }
 }
-
-#[cfg(test)]
-mod tests {
-    use super::*;
-    use std::test::Fail;
-
-    #[test]
-    fn a_call_fails_in_mid_stream_and_at_the_end_of_room(rt: HostRuntime) -> Result<(), Fail> {
-        let fails = [2].to_vec(rt.alloc())?;
-        let mut sink = MemSink::new(rt.alloc(), 4, 3, fails)?;
-        for (piece, want, held) in [
-            ("abcd", Ok(3), "abc"),
-            ("d", Err(Failed), "abc"),
-            ("de", Ok(1), "abcd"),
-            ("", Ok(0), "abcd"),
-            ("e", Err(Failed), "abcd"),
-        ] {
-            assert_eq!(rt; sink.write(piece.as_bytes()), want, "writing {piece:?}");
-            assert_eq!(rt; sink.bytes(), held.as_bytes(), "after {piece:?}");
-        }
-        Ok(())
-    }
-}

@@ -79,31 +79,3 @@ fn copy_front(left: &[u8], most: usize, buf: &mut [u8]) -> usize
     buf[..count].copy_from_slice(&left[..count]);
     count
 }
-
-#[cfg(test)]
-mod tests {
-    use super::*;
-    use std::test::Fail;
-
-    #[test]
-    fn a_call_fails_in_mid_stream(rt: HostRuntime) -> Result<(), Fail> {
-        let bytes = b"abcdefg".to_vec(rt.alloc())?;
-        let mut source = MemSource::new(bytes, 3, [2, 5].to_vec(rt.alloc())?);
-        let mut buf = [0u8; 8];
-        for (call, want) in [
-            Ok("abc"),
-            Err(Failed),
-            Ok("def"),
-            Ok("g"),
-            Err(Failed),
-            Ok(""),
-        ]
-        .iter()
-        .enumerate()
-        {
-            let got = source.read(&mut buf).map(|count| &buf[..count]);
-            assert_eq!(rt; got, want.map(|text| text.as_bytes()), "call {call}");
-        }
-        Ok(())
-    }
-}

@@ -146,6 +146,3 @@ pub fn lex(alloc: Global, bytes: &[u8]) -> Result<Tokens, LexFail>
     }
     Ok(Tokens::from_vec(tokens))
 }
-
-#[cfg(test)]
-mod tests;

@@ -6,7 +6,6 @@ pub mod Nodes
 pub mod TreeAt
 pub mod Program
 pub mod Grows
-pub mod Example
 pub mod Pieces
 pub mod Canon
 pub mod Page

@@ -209,6 +209,3 @@ fn items_from(items: &[NodeId], first: u32, count: u32) -> &[NodeId]
     let from = first as usize;
     &items[from..from + count as usize]
 }
-
-#[cfg(test)]
-mod tests;

@@ -50,29 +50,3 @@ pub fn join(a: Ty, b: Ty) -> Ty
         Ty::Any
     }
 }
-
-#[cfg(test)]
-mod tests {
-    use super::*;
-
-    #[test]
-    fn nil_is_the_least_and_any_the_greatest(rt: HostRuntime) {
-        let (a, b) = (Ty::Class(ClassId(0)), Ty::Class(ClassId(1)));
-        let cases = [
-            (Ty::Nil, Ty::Int, true),
-            (Ty::Int, Ty::Nil, false),
-            (Ty::Str, Ty::Any, true),
-            (Ty::Any, Ty::Str, false),
-            (Ty::Nil, Ty::Any, true),
-            (Ty::Bool, Ty::Bool, true),
-            (Ty::Bool, Ty::Int, false),
-            (a, a, true),
-            (a, b, false),
-            (a, Ty::Any, true),
-            (Ty::Nil, b, true),
-        ];
-        for (one, other, expected) in cases {
-            assert_eq!(rt; below(one, other), expected, "{one:?} below {other:?}");
-        }
-    }
-}
