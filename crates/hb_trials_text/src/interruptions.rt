@@ -1,5 +1,7 @@
 //! A stream that is interrupted, behind the real adapters.
 
+ghost use Rattle.std.specs.Prelude.{◌≤◌, IfOk};
+
 use hb_io::{ReadFail, RealSink, RealSource, WriteFault, read_all, write_all_of};
 use std::io::{self, ErrorKind, Read, Write};
 
