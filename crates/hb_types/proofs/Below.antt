@@ -20,12 +20,8 @@ pub is_below_any : (a b : Ty) → b ≡ ty.Any → IsBelow a b
 is_below_any a b e = subst (λ c. IsBelow a c) (sym e) below_any
 
 below-itself : (a : Ty) → is_below a a ≡ true
-below-itself ty.Nil = refl
-below-itself ty.Bool = refl
-below-itself ty.Int = refl
-below-itself ty.Str = refl
-below-itself ty.Any = refl
 below-itself (ty.Class c) = eq-eqb c.0 c.0 refl
+below-itself _ = refl
 
 either-true : (b : Bool) → (b || true) ≡ true
 either-true true = refl
@@ -38,65 +34,24 @@ is_below_of a _ below_any = ap (λ b. b || same_ty a ty.Any) (either-true (is_ni
 
 pub same_ty_is : (a b : Ty) → same_ty a b ≡ true → a ≡ b
 same_ty_is ty.Nil ty.Nil h = refl
-same_ty_is ty.Nil ty.Bool h = absurd (cc)
-same_ty_is ty.Nil ty.Int h = absurd (cc)
-same_ty_is ty.Nil ty.Str h = absurd (cc)
-same_ty_is ty.Nil ty.Any h = absurd (cc)
-same_ty_is ty.Nil (ty.Class d) h = absurd (cc)
-same_ty_is ty.Bool ty.Nil h = absurd (cc)
 same_ty_is ty.Bool ty.Bool h = refl
-same_ty_is ty.Bool ty.Int h = absurd (cc)
-same_ty_is ty.Bool ty.Str h = absurd (cc)
-same_ty_is ty.Bool ty.Any h = absurd (cc)
-same_ty_is ty.Bool (ty.Class d) h = absurd (cc)
-same_ty_is ty.Int ty.Nil h = absurd (cc)
-same_ty_is ty.Int ty.Bool h = absurd (cc)
 same_ty_is ty.Int ty.Int h = refl
-same_ty_is ty.Int ty.Str h = absurd (cc)
-same_ty_is ty.Int ty.Any h = absurd (cc)
-same_ty_is ty.Int (ty.Class d) h = absurd (cc)
-same_ty_is ty.Str ty.Nil h = absurd (cc)
-same_ty_is ty.Str ty.Bool h = absurd (cc)
-same_ty_is ty.Str ty.Int h = absurd (cc)
 same_ty_is ty.Str ty.Str h = refl
-same_ty_is ty.Str ty.Any h = absurd (cc)
-same_ty_is ty.Str (ty.Class d) h = absurd (cc)
-same_ty_is ty.Any ty.Nil h = absurd (cc)
-same_ty_is ty.Any ty.Bool h = absurd (cc)
-same_ty_is ty.Any ty.Int h = absurd (cc)
-same_ty_is ty.Any ty.Str h = absurd (cc)
 same_ty_is ty.Any ty.Any h = refl
-same_ty_is ty.Any (ty.Class d) h = absurd (cc)
-same_ty_is (ty.Class c) ty.Nil h = absurd (cc)
-same_ty_is (ty.Class c) ty.Bool h = absurd (cc)
-same_ty_is (ty.Class c) ty.Int h = absurd (cc)
-same_ty_is (ty.Class c) ty.Str h = absurd (cc)
-same_ty_is (ty.Class c) ty.Any h = absurd (cc)
 same_ty_is (ty.Class c) (ty.Class d) h = ap (λ (n : ℕ). ty.Class (record { 0 = n })) (eqb-true c.0 d.0 h)
+same_ty_is _ _ h = absurd (cc)
 
 pub same_ty_itself : (a : Ty) → same_ty a a ≡ true
-same_ty_itself ty.Nil = refl
-same_ty_itself ty.Bool = refl
-same_ty_itself ty.Int = refl
-same_ty_itself ty.Str = refl
-same_ty_itself ty.Any = refl
 same_ty_itself (ty.Class c) = eq-eqb c.0 c.0 refl
+same_ty_itself _ = refl
 
 nil-is : (a : Ty) → is_nil a ≡ true → a ≡ ty.Nil
 nil-is ty.Nil h = refl
-nil-is ty.Bool h = absurd (cc)
-nil-is ty.Int h = absurd (cc)
-nil-is ty.Str h = absurd (cc)
-nil-is ty.Any h = absurd (cc)
-nil-is (ty.Class c) h = absurd (cc)
+nil-is _ h = absurd (cc)
 
 any-is : (a : Ty) → is_any a ≡ true → a ≡ ty.Any
-any-is ty.Nil h = absurd (cc)
-any-is ty.Bool h = absurd (cc)
-any-is ty.Int h = absurd (cc)
-any-is ty.Str h = absurd (cc)
 any-is ty.Any h = refl
-any-is (ty.Class c) h = absurd (cc)
+any-is _ h = absurd (cc)
 
 pub is_below_from : (a b : Ty) → is_below a b ≡ true → IsBelow a b
 is_below_from a b h = go (is_nil a) refl (is_any b) refl h

@@ -1,5 +1,6 @@
 -- Finite maps of variables: what is found after each change.
-use Rattle.std.proofs.Common.{◌≡◌, ℕ, zero, suc, ◌<◌, ◌≤◌, append-nil, [], ◌∷◌, ◌++◌, length, get_or, drop, set as list_set, Option, Some, None, Bool, true, false, refl, sym, ap, ◌∙◌, subst, arith, nat_eq, eq-eqb, ◌||◌, ◌&&◌, if◌then◌else◌, position, ltb-true, ltb-false}
+use Rattle.std.proofs.Common.{◌≡◌, ℕ, zero, suc, ◌<◌, ◌≤◌, append-nil, [], ◌∷◌, ◌++◌, length, get_or, drop, set as list_set, Option, Some, None, Bool, true, false, refl, sym}
+use Rattle.std.proofs.Common.{ap, ◌∙◌, subst, arith, nat_eq, eq-eqb, ◌||◌, ◌&&◌, if◌then◌else◌, position, ltb-true, ltb-false}
 use Rattle.std.proofs.lemmas.Bool.{eqb-true}
 use Rattle.std.specs.Prelude.{nat_lt}
 use Rattle.std.specs.List.{position_or_len, refill}
@@ -57,7 +58,8 @@ get_set (v ∷ G) x t y = go (nat_eq v.0.0 x) refl (get_set G x t y)
     other false e ne = refl
     other true e ne = let xy : nat_eq x y ≡ false = same_false y x (subst (λ (n : ℕ). nat_eq n x ≡ false) (eqb-true v.0.0 y e) ne) in rw xy refl
 
-    go : (b : Bool) → nat_eq v.0.0 x ≡ b → get (set G x t) y ≡ (if nat_eq x y then Some t else get G y) → get (if b then variable x t ∷ G else v ∷ set G x t) y ≡ (if nat_eq x y then Some t else (if nat_eq v.0.0 y then Some v.1 else get G y))
+    go : (b : Bool) → nat_eq v.0.0 x ≡ b → get (set G x t) y ≡ (if nat_eq x y then Some t else get G y)
+        → get (if b then variable x t ∷ G else v ∷ set G x t) y ≡ (if nat_eq x y then Some t else (if nat_eq v.0.0 y then Some v.1 else get G y))
     go true e rest = same (nat_eq x y) (get G y) ∙ ap (λ (n : ℕ). if nat_eq x y then Some t else (if nat_eq n y then Some v.1 else get G y)) (sym (eqb-true v.0.0 x e))
     go false e rest = ap (λ o. if nat_eq v.0.0 y then Some v.1 else o) rest ∙ other (nat_eq v.0.0 y) refl e
 
@@ -109,7 +111,8 @@ pub keeps_get : (G H : Variables) → keeps G H ≡ true → (x : ℕ) (t : Ty) 
 keeps_get [] H h x t k = absurd (cc)
 keeps_get (v ∷ G) H h x t k = let p = both_true (stays_below v.1 (get H v.0.0)) (keeps G H) h in go (nat_eq v.0.0 x) refl k p.0 (keeps_get G H p.1 x t)
   where
-    go : (b : Bool) → nat_eq v.0.0 x ≡ b → (if b then Some v.1 else get G x) ≡ Some t → stays_below v.1 (get H v.0.0) ≡ true → (get G x ≡ Some t → (u : Ty) × (get H x ≡ Some u) × (is_below u t ≡ true)) → (u : Ty) × (get H x ≡ Some u) × (is_below u t ≡ true)
+    go : (b : Bool) → nat_eq v.0.0 x ≡ b → (if b then Some v.1 else get G x) ≡ Some t → stays_below v.1 (get H v.0.0) ≡ true
+        → (get G x ≡ Some t → (u : Ty) × (get H x ≡ Some u) × (is_below u t ≡ true)) → (u : Ty) × (get H x ≡ Some u) × (is_below u t ≡ true)
     go false e k s rest = rest k
     go true e k s rest =
         let same : v.1 ≡ t = cc in
