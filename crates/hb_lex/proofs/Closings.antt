@@ -11,12 +11,6 @@ pub record Inside (quote : ℕ) (behind : List ℕ) (i : ℕ) (escaped : Bool) :
   pub fault : text_fault quote escaped (quote + 1 + i) (drop i behind) ≡ text_fault quote false (quote + 1) behind
   pub closed : (m : ℕ) → is_closed escaped (take m (drop i behind)) ≡ true → is_closed false (take (i + m) behind) ≡ true
 
-pub Inside-none : (quote : ℕ) (behind : List ℕ) → Inside quote behind 0 false
-Inside-none quote behind = record {
-  fault = let e : quote + 1 + 0 ≡ quote + 1 = omega arith in rw e refl;
-  closed = λ m h. let e : 0 + m ≡ m = omega arith in rw e h;
-}
-
 module _ (quote : ℕ) (behind : List ℕ) (i : ℕ) (escaped : Bool) (lt : i < length behind) (r : Inside quote behind i escaped) where
   abbrev b : ℕ
   b = get_or behind i 0
@@ -31,7 +25,8 @@ module _ (quote : ℕ) (behind : List ℕ) (i : ℕ) (escaped : Bool) (lt : i < 
   closed_here m h = r.closed m (ap (λ bytes. is_closed escaped (take m bytes)) (drop_more behind i 0 lt) ∙ h)
 
   -- one byte more, where it goes on in this state
-  more : (next : Bool) → text_fault quote next (quote + 1 + i + 1) rest ≡ text_fault quote escaped (quote + 1 + i) (b ∷ rest) → ((m : ℕ) → is_closed next (take m rest) ≡ true → is_closed escaped (b ∷ take m rest) ≡ true) → Inside quote behind (i + 1) next
+  more : (next : Bool) → text_fault quote next (quote + 1 + i + 1) rest ≡ text_fault quote escaped (quote + 1 + i) (b ∷ rest)
+      → ((m : ℕ) → is_closed next (take m rest) ≡ true → is_closed escaped (b ∷ take m rest) ≡ true) → Inside quote behind (i + 1) next
   more next same closes = record {
     fault = let e : quote + 1 + (i + 1) ≡ quote + 1 + i + 1 = omega arith in rw e (same ∙ fault_here);
     closed = λ m h. let e : i + 1 + m ≡ i + suc m = omega arith in rw e (closed_here (suc m) (closes m h));

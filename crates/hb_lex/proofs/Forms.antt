@@ -44,7 +44,8 @@ found test shape (x ∷ kinds) kind h all = elim (cases_Bool (test x)) [
 ]
 
 -- bytes that are found among spellings of one shape have it
-pub spelled_shape : (shape : List ℕ → Bool) (kinds : List TokenKind) (bytes : List ℕ) (kind : TokenKind) → list_all (λ x. shape (spelling x)) kinds ≡ true → spelled kinds bytes ≡ Some kind → (spelling kind ≡ bytes) × (shape bytes ≡ true)
+pub spelled_shape : (shape : List ℕ → Bool) (kinds : List TokenKind) (bytes : List ℕ) (kind : TokenKind) → list_all (λ x. shape (spelling x)) kinds ≡ true → spelled kinds bytes ≡ Some kind
+    → (spelling kind ≡ bytes) × (shape bytes ≡ true)
 spelled_shape shape kinds bytes kind all h =
     let both : (bytes_eq (spelling kind) bytes ≡ true) × (shape (spelling kind) ≡ true) = found (λ x. bytes_eq (spelling x) bytes) (λ x. shape (spelling x)) kinds kind h all in
     let same : spelling kind ≡ bytes = (bytes_eq-Decides (spelling kind) bytes).0 both.0 in

@@ -57,7 +57,8 @@ run_some test b bs (suc n) t r = omega arith
 -- ── words ──
 
 -- no token is longer than a run of word bytes, but for `type?`
-word_longest : (b : ℕ) (bs : List ℕ) (n : ℕ) → (is_small b || is_capital b) ≡ true → bytes_eq (codes "type?") (take 5 (b ∷ bs)) ≡ false → IsRun is_word_byte (b ∷ bs) n → (m : ℕ) → n < m → m ≤ length (b ∷ bs) → kind_of (take m (b ∷ bs)) ≡ None
+word_longest : (b : ℕ) (bs : List ℕ) (n : ℕ) → (is_small b || is_capital b) ≡ true → bytes_eq (codes "type?") (take 5 (b ∷ bs)) ≡ false → IsRun is_word_byte (b ∷ bs) n → (m : ℕ) → n < m
+    → m ≤ length (b ∷ bs) → kind_of (take m (b ∷ bs)) ≡ None
 word_longest b bs n letter other r zero lt le = absurd (omega arith)
 word_longest b bs n letter other r (suc m) lt le = none_from _ (λ kind h.
     elim (only_word b (take m bs) kind letter h) [
@@ -82,7 +83,8 @@ pub record IsWordRun (text : List ℕ) (n : ℕ) : Type 0 where
   pub all : list_all is_word_byte (take n text) ≡ true
   pub longest : (m : ℕ) → n < m → m ≤ length text → kind_of (take m text) ≡ None
 
-pub word_run : (text : List ℕ) (n : ℕ) → 0 < length text → (is_small (first text) || is_capital (first text)) ≡ true → bytes_eq (codes "type?") (take 5 text) ≡ false → n ≡ length (take_while is_word_byte text) → IsWordRun text n
+pub word_run : (text : List ℕ) (n : ℕ) → 0 < length text → (is_small (first text) || is_capital (first text)) ≡ true → bytes_eq (codes "type?") (take 5 text) ≡ false
+    → n ≡ length (take_while is_word_byte text) → IsWordRun text n
 word_run [] n p letter other e = absurd (omega arith)
 word_run (b ∷ bs) n p letter other e =
     let r : IsRun is_word_byte (b ∷ bs) n = run_at is_word_byte (b ∷ bs) n e in
@@ -108,7 +110,8 @@ name_token [] n some le s all h = absurd (omega arith)
 name_token (b ∷ bs) zero some le s all h = absurd (omega arith)
 name_token (b ∷ bs) (suc n) some le s all h = kind_of_name b (take n bs) s all h
 
-class_token : (text : List ℕ) (n : ℕ) → 0 < n → n ≤ length text → is_capital (first text) ≡ true → list_all is_word_byte (take n text) ≡ true → spelled words (take n text) ≡ None → kind_of (take n text) ≡ Some k.ClassName
+class_token : (text : List ℕ) (n : ℕ) → 0 < n → n ≤ length text → is_capital (first text) ≡ true → list_all is_word_byte (take n text) ≡ true → spelled words (take n text) ≡ None
+    → kind_of (take n text) ≡ Some k.ClassName
 class_token [] n some le s all h = absurd (omega arith)
 class_token (b ∷ bs) zero some le s all h = absurd (omega arith)
 class_token (b ∷ bs) (suc n) some le s all h = kind_of_class b (take n bs) s all h

@@ -49,7 +49,9 @@ same_follows : (token : Token) (P Q : Answer → Type 0) (x y : Answer) → ((a 
 same_follows token P Q x y same h g = h.2 ∙ ap (after token) (same h.0 g.0 h.1 g.1) ∙ sym g.2
 
 -- what the front of the text gives, where one answer stands behind it
-same_behind : (at : ℕ) (P Q : ℕ → TokenKind → Answer → Type 0) (x y : Answer) (front : Front) → ((m : ℕ) (kind : TokenKind) (a b : Answer) → P m kind a → Q m kind b → a ≡ b) → MatchResult front (λ found. Follows (token_at found.0 at found.1) (P found.1 found.0) x) (λ fault. x ≡ Err fault) → MatchResult front (λ found. Follows (token_at found.0 at found.1) (Q found.1 found.0) y) (λ fault. y ≡ Err fault) → x ≡ y
+same_behind : (at : ℕ) (P Q : ℕ → TokenKind → Answer → Type 0) (x y : Answer) (front : Front) → ((m : ℕ) (kind : TokenKind) (a b : Answer) → P m kind a → Q m kind b → a ≡ b)
+    → MatchResult front (λ found. Follows (token_at found.0 at found.1) (P found.1 found.0) x) (λ fault. x ≡ Err fault)
+    → MatchResult front (λ found. Follows (token_at found.0 at found.1) (Q found.1 found.0) y) (λ fault. y ≡ Err fault) → x ≡ y
 same_behind at P Q x y (Ok found) same h g = same_follows (token_at found.0 at found.1) (P found.1 found.0) (Q found.1 found.0) x y (same found.1 found.0) h g
 same_behind at P Q x y (Err fault) same h g = h ∙ sym g
 

@@ -1,5 +1,6 @@
 -- What is read so far, and what is read behind it.
-use Rattle.std.proofs.Common.{◌≡◌, ℕ, zero, suc, ◌+◌, ◌-◌, ◌<◌, ◌≤◌, List, [], ◌∷◌, ◌++◌, length, take, drop, Bool, true, false, not, Option, Some, None, Ok, Err, refl, sym, ◌∙◌, ap, subst, arith, append_assoc, get_or, length-drop, length-take}
+use Rattle.std.proofs.Common.{◌≡◌, ℕ, zero, suc, ◌+◌, ◌-◌, ◌<◌, ◌≤◌, List, [], ◌∷◌, ◌++◌, length, take, drop, Bool, true, false, not, Option, Some, None, Ok, Err, refl, sym}
+use Rattle.std.proofs.Common.{◌∙◌, ap, subst, arith, append_assoc, get_or, length-drop, length-take}
 use Rattle.std.specs.Prelude.{MatchBool, Result}
 use Rattle.std.specs.List.{prefix_len}
 use Rattle.std.proofs.lemmas.Bool.{both_ways, cond-true, not_from_false}
@@ -35,10 +36,12 @@ module _ (n at : ℕ) (before : Option TokenKind) (b : ℕ) (text : List ℕ) wh
   step-line : (answer : Answer) → is_blank b ≡ false → is_hash b ≡ false → is_line_feed b ≡ true → separates before ≡ false → Lexes n (at + 1) before text answer → Lexes (suc n) at before (b ∷ text) answer
   step-line answer blank hash feed joins h = on_false (is_blank b) _ _ blank (on_false (is_hash b) _ _ hash (on_true (is_line_feed b) _ _ feed (on_false (separates before) _ _ joins h)))
 
-  step-break : (answer : Answer) → is_blank b ≡ false → is_hash b ≡ false → is_line_feed b ≡ true → separates before ≡ true → Lexes n (at + 1) (Some k.Separator) text answer → Lexes (suc n) at before (b ∷ text) (after (token_at k.Separator at 1) answer)
+  step-break : (answer : Answer) → is_blank b ≡ false → is_hash b ≡ false → is_line_feed b ≡ true → separates before ≡ true → Lexes n (at + 1) (Some k.Separator) text answer
+      → Lexes (suc n) at before (b ∷ text) (after (token_at k.Separator at 1) answer)
   step-break answer blank hash feed splits h = on_false (is_blank b) _ _ blank (on_false (is_hash b) _ _ hash (on_true (is_line_feed b) _ _ feed (on_true (separates before) _ _ splits (answer, h, refl))))
 
-  step-token : (answer : Answer) (kind : TokenKind) (m : ℕ) → is_blank b ≡ false → is_hash b ≡ false → is_line_feed b ≡ false → IsFront at (b ∷ text) (Ok (kind, m)) → Lexes n (at + m) (Some kind) (drop m (b ∷ text)) answer → Lexes (suc n) at before (b ∷ text) (after (token_at kind at m) answer)
+  step-token : (answer : Answer) (kind : TokenKind) (m : ℕ) → is_blank b ≡ false → is_hash b ≡ false → is_line_feed b ≡ false → IsFront at (b ∷ text) (Ok (kind, m))
+      → Lexes n (at + m) (Some kind) (drop m (b ∷ text)) answer → Lexes (suc n) at before (b ∷ text) (after (token_at kind at m) answer)
   step-token answer kind m blank hash feed front h = on_false (is_blank b) _ _ blank (on_false (is_hash b) _ _ hash (on_false (is_line_feed b) _ _ feed (Ok (kind, m), front, (answer, h, refl))))
 
   step-fault : (fault : LexFail) → is_blank b ≡ false → is_hash b ≡ false → is_line_feed b ≡ false → IsFront at (b ∷ text) (Err fault) → Lexes (suc n) at before (b ∷ text) (Err fault)
@@ -73,14 +76,8 @@ Read-none text = record {
   goes_on = λ n answer h. let P = λ (x : Answer). Answers text x in subst P (sym (joined-nil answer)) (n, h);
 }
 
-comment-some : (b : ℕ) (text : List ℕ) → is_line_feed b ≡ false → 0 < comment_len (b ∷ text)
-comment-some b text f = omega (arith, ap length (take_while-cons (λ x. not (is_line_feed x)) b text ∙ cond-true (not (is_line_feed b)) _ [] (not_from_false (is_line_feed b) f)))
-
 comment-within : (text : List ℕ) → comment_len text ≤ length text
 comment-within text = omega (arith, length-take (prefix_len (λ x. not (is_line_feed x)) text) text)
-
-hash_feed : (b : ℕ) → is_hash b ≡ true → is_line_feed b ≡ false
-hash_feed b h = grind (arith, nat_tests)
 
 pub next-some : (text : List ℕ) (kind : TokenKind) (n : ℕ) → IsNext text kind n → 0 < n
 next-some text kind zero next = absurd (cc (sym empty_none ∙ next.token))
@@ -134,9 +131,6 @@ module _ (text : List ℕ) (done : List Token) (at : ℕ) (before : Option Token
         goes_here (suc n) answer (step-comment n at before b tail answer blank hash (subst Q (behind (comment_len (b ∷ tail))) (subst P m h)));
   }
 
-  pub comment-goes : is_hash b ≡ true → 0 < comment_len (rest_of text at)
-  comment-goes hash = omega (arith, comment-some b tail (hash_feed b hash), ap comment_len rest_is)
-
   pub Read-line : is_blank b ≡ false → is_hash b ≡ false → is_line_feed b ≡ true → separates before ≡ false → Read text done (at + 1) before
   Read-line blank hash feed joins = record {
     within = omega arith;
@@ -154,7 +148,8 @@ module _ (text : List ℕ) (done : List Token) (at : ℕ) (before : Option Token
   front_here : (front : Result (TokenKind × ℕ) LexFail) → IsFront at (rest_of text at) front → IsFront at (b ∷ tail) front
   front_here front h = let P = λ (s : List ℕ). IsFront at s front in subst P rest_is h
 
-  pub Read-token : (kind : TokenKind) (m : ℕ) → is_blank b ≡ false → is_hash b ≡ false → is_line_feed b ≡ false → IsFront at (rest_of text at) (Ok (kind, m)) → Read text (done ++ token_at kind at m ∷ []) (at + m) (Some kind)
+  pub Read-token : (kind : TokenKind) (m : ℕ) → is_blank b ≡ false → is_hash b ≡ false → is_line_feed b ≡ false → IsFront at (rest_of text at) (Ok (kind, m))
+      → Read text (done ++ token_at kind at m ∷ []) (at + m) (Some kind)
   Read-token kind m blank hash feed front = record {
     within = omega (arith, (front.0).within, length-take (length text - at) (drop at text), length-drop at text);
     goes_on = λ n answer h.

@@ -69,8 +69,10 @@ two_cases b c kind w h =
 -- where two bytes are a mark, the mark that is found has two
 found_two : (b c : ℕ) (rest : List ℕ) (kind : TokenKind) → IsTwo (b ∷ c ∷ []) → find (stands (b ∷ c ∷ rest)) marks ≡ Some kind → length (spelling kind) ≡ 2
 unfolding marks
-found_two b c rest kind (Equal e) h = let p : b ≡ 61 = cc e in let q : c ≡ 61 = cc e in let same : Some k.Equals ≡ Some kind = rw (p, q) at h in let is : k.Equals ≡ kind = cc same in ap (λ x. length (spelling x)) (sym is)
-found_two b c rest kind (Joined e) h = let p : b ≡ 43 = cc e in let q : c ≡ 43 = cc e in let same : Some k.Concat ≡ Some kind = rw (p, q) at h in let is : k.Concat ≡ kind = cc same in ap (λ x. length (spelling x)) (sym is)
+found_two b c rest kind (Equal e) h = let p : b ≡ 61 = cc e in let q : c ≡ 61 = cc e in let same : Some k.Equals ≡ Some kind = rw (p, q) at h in let is : k.Equals ≡ kind = cc same in
+    ap (λ x. length (spelling x)) (sym is)
+found_two b c rest kind (Joined e) h = let p : b ≡ 43 = cc e in let q : c ≡ 43 = cc e in let same : Some k.Concat ≡ Some kind = rw (p, q) at h in let is : k.Concat ≡ kind = cc same in
+    ap (λ x. length (spelling x)) (sym is)
 found_two b c rest kind (Arrow e) h = let p : b ≡ 45 = cc e in let q : c ≡ 62 = cc e in let same : Some k.Arrow ≡ Some kind = rw (p, q) at h in let is : k.Arrow ≡ kind = cc same in ap (λ x. length (spelling x)) (sym is)
 
 -- each mark has one or two bytes
@@ -82,7 +84,8 @@ unfolding marks
 found_mark text kind h = found (stands text) shape_of_mark marks kind h refl
 
 -- no token is longer than the mark that is found
-mark_longest : (b : ℕ) (bs : List ℕ) (kind : TokenKind) → is_word_byte b ≡ false → is_quote b ≡ false → find (stands (b ∷ bs)) marks ≡ Some kind → 0 < length (spelling kind) → (m : ℕ) → length (spelling kind) < m → m ≤ length (b ∷ bs) → kind_of (take m (b ∷ bs)) ≡ None
+mark_longest : (b : ℕ) (bs : List ℕ) (kind : TokenKind) → is_word_byte b ≡ false → is_quote b ≡ false → find (stands (b ∷ bs)) marks ≡ Some kind → 0 < length (spelling kind) → (m : ℕ)
+    → length (spelling kind) < m → m ≤ length (b ∷ bs) → kind_of (take m (b ∷ bs)) ≡ None
 mark_longest b bs kind w q f some zero lt le = absurd (omega arith)
 mark_longest b bs kind w q f some (suc zero) lt le = absurd (omega arith)
 mark_longest b [] kind w q f some (suc (suc m)) lt le = absurd (omega arith)
@@ -149,7 +152,8 @@ begins_none (b ∷ bs) p w q f = λ m le. none_at m le
         cc (sym at ∙ fixed_mark (b ∷ take m bs) w ∙ none))
 
 -- no token begins with this byte
-pub bad_byte : (text : List ℕ) (at : ℕ) → 0 < length text → is_word_byte (first text) ≡ false → is_quote (first text) ≡ false → find (stands text) marks ≡ None → BeginsNone text × (front_fault at text ≡ Some (fail.BadByte at))
+pub bad_byte : (text : List ℕ) (at : ℕ) → 0 < length text → is_word_byte (first text) ≡ false → is_quote (first text) ≡ false → find (stands text) marks ≡ None
+    → BeginsNone text × (front_fault at text ≡ Some (fail.BadByte at))
 bad_byte text at p w q f = (begins_none text p w q f, fault_at text p q)
   where
     fault_at : (text : List ℕ) → 0 < length text → is_quote (first text) ≡ false → front_fault at text ≡ Some (fail.BadByte at)

@@ -82,7 +82,8 @@ excess_fault whole k.Number at bytes f le h = limit_fault whole _ (fail.BigNumbe
 excess_fault whole k.Text at bytes f le h = limit_fault whole _ (fail.LongLiteral at) f le h
 excess_fault whole _ at bytes f le h = absurd (cc h)
 
-text_fault_within : (whole : List ℕ) (quote : ℕ) (escaped : Bool) (at : ℕ) (bytes : List ℕ) (f : LexFail) → quote ≤ length whole → at + length bytes ≤ length whole → text_fault quote escaped at bytes ≡ Some f → IsFaultOf whole f
+text_fault_within : (whole : List ℕ) (quote : ℕ) (escaped : Bool) (at : ℕ) (bytes : List ℕ) (f : LexFail) → quote ≤ length whole → at + length bytes ≤ length whole
+    → text_fault quote escaped at bytes ≡ Some f → IsFaultOf whole f
 text_fault_within whole quote escaped at [] f q le h = is_fault whole (fail.OpenText quote) f q h
 text_fault_within whole quote true at (b ∷ bytes) f q le h = elim (cond_cases (is_line_feed b) _ _ _ h) [
   | inl feed ↦ is_fault whole (fail.OpenText quote) f q feed.1
@@ -125,7 +126,9 @@ split false P Q R h f g = g refl h
 behind : (whole : List ℕ) (at m : ℕ) (text : List ℕ) → text ≡ drop at whole → drop m text ≡ drop (at + m) whole
 behind whole at m text e = ap (drop m) e ∙ drop-drop m at whole
 
-front_stands : (whole : List ℕ) (at : ℕ) (text : List ℕ) (P : ℕ → TokenKind → Answer → Type 0) (answer : Answer) (front : Front) → text ≡ drop at whole → ((m : ℕ) (kind : TokenKind) (more : Answer) → P m kind more → StandsFrom whole (at + m) more) → 0 < length text → IsFront at text front → MatchResult front (λ found. Follows (token_at found.0 at found.1) (P found.1 found.0) answer) (λ fault. answer ≡ Err fault) → StandsFrom whole at answer
+front_stands : (whole : List ℕ) (at : ℕ) (text : List ℕ) (P : ℕ → TokenKind → Answer → Type 0) (answer : Answer) (front : Front) → text ≡ drop at whole
+    → ((m : ℕ) (kind : TokenKind) (more : Answer) → P m kind more → StandsFrom whole (at + m) more) → 0 < length text → IsFront at text front
+    → MatchResult front (λ found. Follows (token_at found.0 at found.1) (P found.1 found.0) answer) (λ fault. answer ≡ Err fault) → StandsFrom whole at answer
 front_stands whole at text P answer (Ok (kind, m)) e more some is h = with_token whole kind at m answer h.0 (next-stands whole kind at m text e is.0 is.1) (more m kind h.0 h.1) h.2
 front_stands whole at text P answer (Err fault) e more some is h = let Q = λ (x : Answer). StandsFrom whole at x in subst Q (sym h) (front-fault whole at text fault e some is)
 

@@ -20,9 +20,6 @@ pub record Reads (digits : List ℕ) (i : ℕ) (value : ℕ) : Type 0 where
 pub Reads-more : (digits : List ℕ) (i value : ℕ) → i < length digits → Reads digits i value → Reads digits (i + 1) (with_digit value (get_or digits i 0))
 Reads-more digits i value lt r = record { goes_on = sym (at_drop_more (fold with_digit value) digits i 0 lt) ∙ r.goes_on }
 
-pub Reads-all : (digits : List ℕ) (i value : ℕ) → length digits ≤ i → Reads digits i value → value ≡ value_of_number digits
-Reads-all digits i value le r = sym (at_drop_all (fold with_digit value) digits i le) ∙ r.goes_on
-
 pub Reads-least : (digits : List ℕ) (i value : ℕ) → Reads digits i value → value ≤ value_of_number digits
 Reads-least digits i value r = omega (arith, value_grows value (drop i digits), r.goes_on)
 

@@ -12,5 +12,6 @@ loop-i-preserved c =
       | else-escaped+else-b-eq34+then-b-eq92 w ↦ rw w.escaped-is
           (Inside-backslash _ _ _ _ c.loop-i-test.true c.loop-i.invariant w.if-escaped.false (ne_eqb _ _ w.if-b-eq34.false) (eq-eqb _ _ w.if-b-eq92.true))
       | else-escaped+else-b-eq34+else-b-eq92+else-b-eq10-2+else-not-is_plain w ↦ rw (w.escaped-is, w.if-escaped.false)
-          (Inside-plain _ _ _ _ c.loop-i-test.true c.loop-i.invariant w.if-escaped.false (ne_eqb _ _ w.if-b-eq34.false) (ne_eqb _ _ w.if-b-eq92.false) (ne_eqb _ _ w.if-b-eq10-2.false) (sym w.is_plain.ensures ∙ w.if-not-is_plain.false))
+          (Inside-plain _ _ _ _ c.loop-i-test.true c.loop-i.invariant w.if-escaped.false (ne_eqb _ _ w.if-b-eq34.false) (ne_eqb _ _ w.if-b-eq92.false) (ne_eqb _ _ w.if-b-eq10-2.false)
+              (sym w.is_plain.ensures ∙ w.if-not-is_plain.false))
     ]
