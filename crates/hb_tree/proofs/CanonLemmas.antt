@@ -23,7 +23,8 @@ use Rattle.hb_tree.specs.TreeAt.{tree_at, tree_of, tree_of_place, tree_down, for
 use Rattle.hb_tree.specs.Program.{IsProgram, IsRootIn, IsBlockNode, IsScriptIn, all_parts}
 use Rattle.hb_tree.specs.Roots.{IsReachedOnce, roots, setup_root}
 use Rattle.hb_tree.specs.Pieces.{Piece, mark, line_end}
-use Rattle.hb_tree.specs.Canon.{own, each, wrap, least_left, least_right, op_kind, arguments, otherwise, separated, named, computed, parameters, signature, declares, name_piece, line, lines_of, class_line, setup_lines, script_lines, pieces_of, canon, bytes_at}
+use Rattle.hb_tree.specs.Canon.{own, each, wrap, least_left, least_right, op_kind, arguments, otherwise, separated, named, computed, parameters, signature, declares}
+use Rattle.hb_tree.specs.Canon.{name_piece, line, lines_of, class_line, setup_lines, script_lines, pieces_of, canon, bytes_at}
 use Rattle.hb_tree.proofs.Lists.{each_append, past_none}
 use Rattle.hb_tree.proofs.Trees.{tree_at_node, node_within}
 use Rattle.hb_tree.proofs.Known.{program_founded}

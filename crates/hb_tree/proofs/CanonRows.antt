@@ -75,6 +75,3 @@ rows =
     ∷ (TAssign 0 0 (TBinary 0 op.Sub (TInt 0 (pos 12)) a), codes "a = " ++ decimal 12 ++ codes " - a")
     ∷ (TDeclareComputed 0 0 a 1 true, codes "type? A.(a) : () -> Bool")
     ∷ []
-
-rows_hold : AllByRecursion (λ row. spell (own table row.0) ≡ row.1) rows
-rows_hold = (refl, (refl, (refl, (refl, (refl, (refl, (refl, (refl, (refl, (refl, (refl, (refl, (refl, (refl, (refl, (refl, (refl, (refl, (refl, (refl, (refl, (refl, (refl, (refl, (refl, tt)))))))))))))))))))))))))

@@ -28,10 +28,8 @@ use Rattle.hb_tree.specs.Forms.{method_pieces, node_level}
 
 pub level-tree_of : (t : Table) (part : ℕ → Tree) (id : ℕ) (n : Node) → level (tree_of t part id n) ≡ node_level n
 level-tree_of t part id (node.Def (method.Named c m) s) = refl
-level-tree_of t part id (node.Def (method.Computed c e) s) = refl
 level-tree_of t part id (node.Declare (method.Named c m) s q) = refl
-level-tree_of t part id (node.Declare (method.Computed c e) s q) = refl
-level-tree_of t part id _ = refl
+level-tree_of _ _ _ _ = refl
 
 pub own-def : (t : Table) (m : Method) (s : BodySite) (b : Body) → slice_get t.bodies s.0 ≡ Some b
     → own t (tree_of t (tree_at t) 0 (node.Def m s)) ≡ (mark k.KwDef ∷ method_pieces t m) ++ parameters t s.0 ++ own t (tree_at t b.block.0) ++ mark k.KwEnd ∷ []
@@ -48,9 +46,6 @@ own-declare t (method.Computed c e) s q = refl
 -- what is in parentheses, and what is not
 pub wrap-paren : (least : ℕ) (e : Tree) (ps : List Piece) → level e < least → wrap least e ps ≡ mark k.OpenParen ∷ (ps ++ mark k.CloseParen ∷ [])
 wrap-paren least e ps h = rw (lt-ltb (level e) least h)
-
-pub wrap-plain : (least : ℕ) (e : Tree) (ps : List Piece) → least ≤ level e → wrap least e ps ≡ ps
-wrap-plain least e ps h = rw (le-ltb (level e) least h)
 
 pub each-map : (t : Table) (part : ℕ → Tree) (is : List NodeId) → each t (forest_at part is) ≡ map (λ i. own t (part i.0)) is
 each-map t part [] = refl

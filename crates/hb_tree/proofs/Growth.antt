@@ -21,9 +21,10 @@ use Rattle.hb_tree.specs.Table.{Table}
 use Rattle.hb_tree.specs.Tree.{Tree, TBlock, TDef, TDefComputed}
 use Rattle.hb_tree.specs.Nodes.{params_of, items_of, numbers_of, node_at, block_in, exprs_of, blocks_of, parts_of}
 use Rattle.hb_tree.specs.TreeAt.{forest_at, tree_of, tree_of_place, tree_down, tree_at}
-use Rattle.hb_tree.specs.Program.{HasPlaces, HasParts, IsMethodIn, IsKnownIn, IsNodeIn, IsExprNode, IsBlockNode, IsDefNode, IsDeclareNode, HasParams, IsBodyIn, IsTyIn, IsMethodTyIn, IsTypeIn, IsRootIn, IsScriptIn, all_parts}
+use Rattle.hb_tree.specs.Program.{HasPlaces, HasParts, IsMethodIn, IsKnownIn, IsNodeIn, IsExprNode, IsBlockNode, IsDefNode, IsDeclareNode, HasParams, IsBodyIn, IsTyIn}
+use Rattle.hb_tree.specs.Program.{IsMethodTyIn, IsTypeIn, IsRootIn, IsScriptIn, all_parts}
 use Rattle.hb_tree.specs.Grows.{Grows, IsFounded}
-use Rattle.hb_tree.proofs.Lists.{slice_get-push_cases, each_weaker, each_from, some_begins, flat_map_alike, length-begins, slice_get-within, slice_range-begins}
+use Rattle.hb_tree.proofs.Lists.{each_weaker, each_from, some_begins, flat_map_alike, length-begins, slice_get-within, slice_range-begins}
 use Rattle.hb_tree.proofs.Trees.{tree_alike, parts_weaker, node_within}
 
 module _ (t u : Table) (grown : Grows t u) where
@@ -179,15 +180,3 @@ module _ (t u : Table) (grown : Grows t u) (founded : IsFounded t) where
       ∙ ap (λ js. js ++ flat_map (λ p. parts_of u p.node) grown.nodes.0)
       (flat_map_alike (λ p. parts_of u p.node) (λ p. parts_of t p.node) t.nodes
       (each_from (λ p. parts_of u p.node ≡ parts_of t p.node) t.nodes (λ i p e. parts_of-grown t u grown p.node (founded i p.node (ap (option_map (λ q. q.node)) e)).places)))
-
--- where one node was added, a number with a node is an old one or that of the new node
-pub node_at-push_cases : (t u : Table) (p : Placed) → u.nodes ≡ t.nodes ++ p ∷ [] → (id : ℕ) (n : Node) → node_at u id ≡ Some n → (node_at t id ≡ Some n) ⊎ ((id ≡ length t.nodes) × (p.node ≡ n))
-node_at-push_cases t u p pushed id n e =
-    go (slice_get (t.nodes ++ p ∷ []) id) refl (ap (λ ps. option_map (λ q. q.node) (slice_get ps id)) (sym pushed) ∙ e)
-  where
-    go : (o : Option Placed) → slice_get (t.nodes ++ p ∷ []) id ≡ o → option_map (λ q. q.node) o ≡ Some n → (node_at t id ≡ Some n) ⊎ ((id ≡ length t.nodes) × (p.node ≡ n))
-    go None k l = absurd (none-some n l)
-    go (Some q) k l = elim (slice_get-push_cases t.nodes p id q k) [
-      | inl h ↦ inl (ap (option_map (λ r. r.node)) h ∙ l)
-      | inr h ↦ inr (h.0, ap (λ r. r.node) h.1 ∙ same_Some q.node n l)
-    ]

@@ -21,7 +21,8 @@ pub got : {X : Type 0} (field : Table → List X) (s t : Table) → s ≡ t → 
 got field s t same i x within read = slice_get_read (field t) (length (field t)) i x refl within (subst (λ u. x ≡ get_or (field u) i x) same read)
 
 -- and what is seen of it
-pub got_view : {X Y : Type 0} (field : Table → List Y) (view : X → Y) (xs : List X) (s t : Table) → s ≡ t → field s ≡ map view xs → (i : ℕ) (x : X) → i < length (field t) → x ≡ get_or xs i x → slice_get (field t) i ≡ Some (view x)
+pub got_view : {X Y : Type 0} (field : Table → List Y) (view : X → Y) (xs : List X) (s t : Table) → s ≡ t → field s ≡ map view xs → (i : ℕ) (x : X) → i < length (field t) → x ≡ get_or xs i x
+    → slice_get (field t) i ≡ Some (view x)
 got_view field view xs s t same seen i x within read =
     let all : field t ≡ map view xs = subst (λ u. field u ≡ map view xs) same seen in
     let inside : i < length xs = omega (arith, ap length all, length-map xs view) in
@@ -73,7 +74,5 @@ declare_is_expr site _ h = absurd h
 pub block_only : (t : Table) (id : ℕ) (n : Node) → IsBlock (tree_of t (tree_at t) id n) → ((first count : ℕ) → n ≡ node.Block first count → ⊥) → ⊥
 block_only t id (node.Block first count) h k = k first count refl
 block_only t id (node.Def (method.Named c m) s) h k = h
-block_only t id (node.Def (method.Computed c e) s) h k = h
 block_only t id (node.Declare (method.Named c m) s q) h k = h
-block_only t id (node.Declare (method.Computed c e) s q) h k = h
-block_only t id _ h k = h
+block_only _ _ _ h _ = h

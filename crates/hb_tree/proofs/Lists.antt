@@ -19,13 +19,6 @@ each_weaker P Q f (x ∷ xs) h = (f x h.0, each_weaker P Q f xs h.1)
 pub past_none : {X : Type 0} (xs : List X) (i : ℕ) → slice_get xs i ≡ None → length xs ≤ i
 past_none xs i e = elim (slice_get_cases xs i).1 [ inl h ↦ absurd (none-some h.0 (sym e ∙ h.2)) | inr h ↦ h.0 ]
 
--- each place of one more element
-pub slice_get-push_cases : {X : Type 0} (xs : List X) (y : X) (i : ℕ) (x : X) → slice_get (xs ++ y ∷ []) i ≡ Some x → (slice_get xs i ≡ Some x) ⊎ ((i ≡ length xs) × (y ≡ x))
-slice_get-push_cases [] y zero x e = inr (refl, same_Some y x e)
-slice_get-push_cases [] y (suc i) x e = absurd (none-some x e)
-slice_get-push_cases (z ∷ xs) y zero x e = inl e
-slice_get-push_cases (z ∷ xs) y (suc i) x e = elim (slice_get-push_cases xs y i x e) [ inl h ↦ inl h | inr h ↦ inr (omega (arith, h.0), h.1) ]
-
 module _ {X : Type 0} (xs ys : List X) (grown : BeginsWith xs ys) where
   pub length-begins : length xs ≤ length ys
   length-begins = omega (arith, ap length grown.1, length-append xs grown.0)
@@ -86,26 +79,9 @@ pub flat_map_alike : {X Y : Type 0} (f g : X → List Y) (xs : List X) → AllBy
 flat_map_alike f g [] h = refl
 flat_map_alike f g (x ∷ xs) h = rw (h.0, flat_map_alike f g xs h.1) refl
 
--- a fact of each place and its element
-abbrev pub EachAt : {X : Type 0} → (ℕ → X → Type 0) → List X → Type 0
-EachAt P [] = Unit {0}
-EachAt P (x ∷ xs) = P 0 x × EachAt (λ i. P (suc i)) xs
-
-pub each_place : {X : Type 0} (P : ℕ → X → Type 0) (xs : List X) → EachAt P xs → (i : ℕ) (x : X) → slice_get xs i ≡ Some x → P i x
-each_place P [] h i x e = absurd (none-some x e)
-each_place P (y ∷ ys) h zero x e = subst (P 0) (same_Some y x e) h.0
-each_place P (y ∷ ys) h (suc i) x e = each_place (λ j. P (suc j)) ys h.1 i x e
-
--- a fact of the numbers of these nodes, as a loop over them wants it
 pub All-numbers_of : (P : ℕ → Type 0) (is : List NodeId) → AllByRecursion P (numbers_of is) → All (λ i. P i.0) is
 All-numbers_of P is h = All-from_recursion (λ i. P i.0) is (go is h)
   where
     go : (js : List NodeId) → AllByRecursion P (numbers_of js) → AllByRecursion (λ i. P i.0) js
     go [] k = tt
     go (j ∷ js) k = (k.0, go js k.1)
-
--- no number of one list is one of the other
-pub IsDistinct-append : (xs ys : List ℕ) → IsDistinct nat_eq xs → IsDistinct nat_eq ys → AllByRecursion (λ x. AllByRecursion (λ y. nat_eq x y ≡ false) ys) xs → IsDistinct nat_eq (xs ++ ys)
-unfolding IsDistinct
-IsDistinct-append [] ys d e apart = e
-IsDistinct-append (x ∷ xs) ys d e apart = (each_append (λ y. nat_eq x y ≡ false) xs ys d.0 apart.0, IsDistinct-append xs ys d.1 e apart.1)

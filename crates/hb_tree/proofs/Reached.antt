@@ -94,7 +94,8 @@ module _ (cost : ℕ → ℕ) where
         → (k : ℕ) (xs : List ℕ) → AllByRecursion (λ j. j < k) xs → ((j : ℕ) → times j xs + before parts k j ≤ 1) → total cost xs ≤ 2100 * k
     reached_once step low zero [] h once = omega arith
     reached_once step low zero (x ∷ xs) h once = let none : x < 0 = h.0 in absurd (omega arith)
-    reached_once step low (suc k) xs h once = elim (take_one k xs h (let o = once k in omega arith)) [ inl below ↦ without (reached_once step low k xs below) | inr t ↦ with_one t (reached_once step low k (parts k ++ t.rest) (each_append (λ j. j < k) (parts k) t.rest (low k) t.below)) ]
+    reached_once step low (suc k) xs h once = elim (take_one k xs h (let o = once k in omega arith))
+        [ inl below ↦ without (reached_once step low k xs below) | inr t ↦ with_one t (reached_once step low k (parts k ++ t.rest) (each_append (λ j. j < k) (parts k) t.rest (low k) t.below)) ]
       where
         without : (((j : ℕ) → times j xs + before parts k j ≤ 1) → total cost xs ≤ 2100 * k) → total cost xs ≤ 2100 * suc k
         without go = let rest = go (λ j. (let o = once j in omega arith)) in omega arith

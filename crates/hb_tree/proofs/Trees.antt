@@ -24,14 +24,6 @@ forest_alike f g (i ∷ is) h = rw (h.0, forest_alike f g is h.1) refl
 
 -- two functions that are alike at the parts of a node make one tree
 pub tree_alike : (t : Table) (f g : ℕ → Tree) (id : ℕ) (n : Node) → AllParts (λ j. f j ≡ g j) t n → tree_of t f id n ≡ tree_of t g id n
-tree_alike t f g id node.Nil h = refl
-tree_alike t f g id node.True h = refl
-tree_alike t f g id node.False h = refl
-tree_alike t f g id node.SelfRef h = refl
-tree_alike t f g id (node.Int n) h = refl
-tree_alike t f g id (node.Text x) h = refl
-tree_alike t f g id (node.Var x) h = refl
-tree_alike t f g id (node.New c) h = refl
 tree_alike t f g id (node.Assign x e) h = ap (TAssign id x.0) h.0.0
 tree_alike t f g id (node.Print e) h = ap (TPrint id) h.0.0
 tree_alike t f g id (node.ToStr e) h = ap (TToStr id) h.0.0
@@ -42,9 +34,9 @@ tree_alike t f g id (node.While c b) h = let ec = h.0.0 in let eb = h.1.0 in cc
 tree_alike t f g id (node.Call r m args) h = let er = h.0.0 in let ea = forest_alike f g (args_of args) h.0.1 in cc
 tree_alike t f g id (node.Def (method.Named c m) s) h = ap (TDef id c.0 m.0 s.0) h.1.0
 tree_alike t f g id (node.Def (method.Computed c e) s) h = let ee = h.0.0 in let eb = h.1.0 in cc
-tree_alike t f g id (node.Declare (method.Named c m) s q) h = refl
 tree_alike t f g id (node.Declare (method.Computed c e) s q) h = ap (λ u. TDeclareComputed id c.0 u s.0 q) h.0.0
 tree_alike t f g id (node.Block first count) h = ap (TBlock id) (forest_alike f g (items_of t first count) h.0)
+tree_alike _ _ _ _ _ _ = refl
 
 -- a weaker fact of each part
 pub parts_weaker : (t : Table) (P Q : ℕ → Type 0) → ((j : ℕ) → P j → Q j) → (n : Node) → AllParts P t n → AllParts Q t n
@@ -74,10 +66,8 @@ module _ (t : Table) (founded : IsFounded t) where
 expr_kind : (t : Table) (part : ℕ → Tree) (id : ℕ) (n : Node) → IsExprNode (Some n) → IsExpr (tree_of t part id n)
 expr_kind t part id (node.Block first count) h = h
 expr_kind t part id (node.Def (method.Named c m) s) h = tt
-expr_kind t part id (node.Def (method.Computed c e) s) h = tt
 expr_kind t part id (node.Declare (method.Named c m) s q) h = tt
-expr_kind t part id (node.Declare (method.Computed c e) s q) h = tt
-expr_kind t part id _ h = tt
+expr_kind _ _ _ _ _ = tt
 
 -- and one that is a block that of a block
 block_kind : (t : Table) (part : ℕ → Tree) (id : ℕ) (n : Node) → IsBlockNode (Some n) → IsBlock (tree_of t part id n)
@@ -109,12 +99,9 @@ module _ (t : Table) (founded : IsFounded t) (id : ℕ) where
 
 -- the tree at a node carries its number
 id_of_place : (t : Table) (f : ℕ → Tree) (id : ℕ) (o : Option Node) → id_of (tree_of_place t f id o) ≡ id
-id_of_place t f id None = refl
 id_of_place t f id (Some (node.Def (method.Named c m) s)) = refl
-id_of_place t f id (Some (node.Def (method.Computed c e) s)) = refl
 id_of_place t f id (Some (node.Declare (method.Named c m) s q)) = refl
-id_of_place t f id (Some (node.Declare (method.Computed c e) s q)) = refl
-id_of_place t f id (Some _) = refl
+id_of_place _ _ _ _ = refl
 
 pub id_of-tree_at : (t : Table) (id : ℕ) → id_of (tree_at t id) ≡ id
 unfolding tree_at tree_down

@@ -97,20 +97,12 @@ module _ (t : Table) (spelled : IsSpelled t) where
   text-le x = at-le 1024 t.texts x (words-short IsText 1024 t.texts (λ w h. h.short) spelled.texts)
 
   pub type-le : (y : Ty) → breadth (type_piece t y) ≤ 65
-  type-le ty.Nil = omega arith
-  type-le ty.Bool = omega arith
-  type-le ty.Int = omega arith
-  type-le ty.Str = omega arith
-  type-le ty.Any = omega arith
   type-le (ty.Class c) = let h = class-le c.0 in omega arith
+  type-le _ = omega arith
 
 pub op-le : (o : Op) → breadth (mark (op_kind o)) ≤ 3
 op-le op.Add = omega arith
-op-le op.Sub = omega arith
-op-le op.Mul = omega arith
-op-le op.Concat = omega arith
-op-le op.Less = omega arith
-op-le op.Equal = omega arith
+op-le _ = omega arith
 
 pub declares-le : (q : Bool) → breadth (mark (declares q)) ≤ 6
 declares-le true = omega arith

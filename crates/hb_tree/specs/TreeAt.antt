@@ -6,7 +6,8 @@ use Rattle.hb_tree.specs.declared.node.Node.{Node}
 use Rattle.hb_tree.specs.declared.node.Node.TheVariants as node
 use Rattle.hb_tree.specs.declared.node.Method.TheVariants as method
 use Rattle.hb_tree.specs.Table.{Table}
-use Rattle.hb_tree.specs.Tree.{Tree, TNil, TTrue, TFalse, TSelf, TInt, TText, TVar, TNew, TAssign, TPrint, TToStr, TNot, TBinary, TIf, TWhile, TCall, TDef, TDefComputed, TDeclare, TDeclareComputed, TBlock, Forest, NoTree, Trees, IsExpr, IsBlock}
+use Rattle.hb_tree.specs.Tree.{Tree, TNil, TTrue, TFalse, TSelf, TInt, TText, TVar, TNew, TAssign, TPrint, TToStr, TNot, TBinary, TIf, TWhile, TCall, TDef, TDefComputed}
+use Rattle.hb_tree.specs.Tree.{TDeclare, TDeclareComputed, TBlock, Forest, NoTree, Trees, IsExpr, IsBlock}
 use Rattle.hb_tree.specs.Nodes.{args_of, items_of, node_at, block_in, exprs_of, blocks_of}
 
 -- the trees of these nodes
