@@ -176,7 +176,8 @@ pub record CanDeclareComputed (d : Unfinished) (class : ℕ) (e : NodeId) (ty : 
   pub has : HasExprs 1 (in_hand d)
   pub last : last_nodes 1 d.nodes ≡ e ∷ last_nodes 0 d.nodes
 
-module _ (t : Table) (ids : List NodeId) (draft : IsDraft t ids) (place : ℕ × ℕ) (class : ClassId) (e : NodeId) (ty : MethodTy) (asks : Bool) (can : CanDeclareComputed (record { table = t; nodes = ids }) class.0 e ty) where
+module _ (t : Table) (ids : List NodeId) (draft : IsDraft t ids) (place : ℕ × ℕ) (class : ClassId) (e : NodeId) (ty : MethodTy) (asks : Bool)
+    (can : CanDeclareComputed (record { table = t; nodes = ids }) class.0 e ty) where
   abbrev dn : Node
   dn = node.Declare (method.Computed class e) (record { 0 = length t.types }) asks
 

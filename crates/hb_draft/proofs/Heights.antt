@@ -21,18 +21,9 @@ highest-greatest f (i ∷ is) = ap (max (height (f i.0))) (highest-greatest f is
 
 -- a node is one higher than the highest of its parts
 pub height-parts : (t : Table) (f : ℕ → Tree) (id : ℕ) (n : Node) → height (tree_of t f id n) ≡ 1 + greatest (map (λ j. height (f j)) (parts_of t n))
-height-parts t f id (node.Assign x e) = omega arith
-height-parts t f id (node.Print e) = omega arith
-height-parts t f id (node.ToStr e) = omega arith
-height-parts t f id (node.Not e) = omega arith
-height-parts t f id (node.Binary op a b) = omega arith
-height-parts t f id (node.If c a b) = omega arith
-height-parts t f id (node.While c b) = omega arith
 height-parts t f id (node.Call r m args) = ap (λ n. 1 + max (height (f r.0)) n) (highest-greatest f (args_of args))
 height-parts t f id (node.Def (method.Named c m) s) = omega arith
-height-parts t f id (node.Def (method.Computed c e) s) = omega arith
 height-parts t f id (node.Declare (method.Named c m) s q) = omega arith
-height-parts t f id (node.Declare (method.Computed c e) s q) = omega arith
 height-parts t f id (node.Block first count) = ap (λ n. 1 + n) (highest-greatest f (items_of t first count))
 height-parts t f id _ = omega arith
 

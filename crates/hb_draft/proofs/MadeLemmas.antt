@@ -8,9 +8,11 @@ use Rattle.hb_tree.specs.declared.parts.Body.{Body}
 use Rattle.hb_tree.specs.Tree.{Tree, TText, TDef, TDeclare, TDeclareComputed}
 use Rattle.hb_tree.specs.TreeAt.{tree_at, tree_of}
 use Rattle.hb_draft.specs.Put.{PutsNode}
-use Rattle.hb_draft.specs.Unfinished.{Unfinished, AddsNode, IsBodyOf, AddsClass, AddsName, Puts, PutsText, PutsDef, PutsComputedDef, PutsDeclare, PutsComputedDeclare, AddsSetup, AddsScript, in_hand, leaf_over, unary_over}
+use Rattle.hb_draft.specs.Unfinished.{Unfinished, AddsNode, IsBodyOf, AddsClass, AddsName, Puts, PutsText, PutsDef, PutsComputedDef, PutsDeclare, PutsComputedDeclare}
+use Rattle.hb_draft.specs.Unfinished.{AddsSetup, AddsScript, in_hand, leaf_over, unary_over}
 use Rattle.hb_draft.specs.Words.{with_word}
-use Rattle.hb_draft.specs.Made.{Made, Given, place_of, given_by, type_of, made_of, word_number, with_class, with_name, with_node, with_text, with_body, with_type, with_def, with_computed_def, def_computed_over, with_declare, with_computed_declare, with_setup, setup_from, with_script, script_from, id_on_top}
+use Rattle.hb_draft.specs.Made.{Made, Given, place_of, given_by, type_of, made_of, word_number, with_class, with_name, with_node, with_text, with_body, with_type, with_def}
+use Rattle.hb_draft.specs.Made.{with_computed_def, def_computed_over, with_declare, with_computed_declare, with_setup, setup_from, with_script, script_from, id_on_top}
 use Rattle.hb_draft.proofs.Steps.{placed_at}
 use Rattle.hb_draft.proofs.Hands.{puts}
 
@@ -27,20 +29,6 @@ made_alike m n classes names texts places bodies types setup scripts hand =
     ∙ ap (λ v. record n { setup = v; scripts = m.scripts; hand = m.hand }) setup
     ∙ ap (λ v. record n { scripts = v; hand = m.hand }) scripts
     ∙ ap (λ v. record n { hand = v }) hand
-
--- there are as many places as nodes, and so on
-module _ (d : Unfinished) where
-  pub places-made : length (made_of d).places ≡ length d.table.nodes
-  places-made = length-map d.table.nodes place_of
-
-  pub bodies-made : length (made_of d).bodies ≡ length d.table.bodies
-  bodies-made = length-map d.table.bodies given_by
-
-  pub types-made : length (made_of d).types ≡ length d.table.types
-  types-made = length-map d.table.types type_of
-
-  pub scripts-made : length (made_of d).scripts ≡ length d.table.scripts
-  scripts-made = length-map d.table.scripts (λ s. (s.0.0, tree_at d.table s.1.0))
 
 module _ (old new : Unfinished) where
   pub class-made : (class : List ℕ) → AddsClass old new class → made_of new ≡ with_class (made_of old) class

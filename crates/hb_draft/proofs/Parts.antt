@@ -49,10 +49,8 @@ expr_node t f id _ h = tt
 block_node : (t : Table) (f : ℕ → Tree) (id : ℕ) (n : Node) → IsBlock (tree_of t f id n) → IsBlockNode (Some n)
 block_node t f id (node.Block first count) h = tt
 block_node t f id (node.Def (method.Named c m) s) h = h
-block_node t f id (node.Def (method.Computed c e) s) h = h
 block_node t f id (node.Declare (method.Named c m) s q) h = h
-block_node t f id (node.Declare (method.Computed c e) s q) h = h
-block_node t f id _ h = h
+block_node _ _ _ _ h = h
 
 module _ (t : Table) (founded : IsFounded t) (id : ℕ) (within : id < length t.nodes) where
   pub expr_node-at : IsExpr (tree_at t id) → IsExprNode (node_at t id)

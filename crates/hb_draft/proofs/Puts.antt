@@ -34,13 +34,15 @@ module _ (t : Table) (ids : List NodeId) (p : Placed) (count : ℕ) (draft : IsD
   }
 
   kept_plain : (hs : List ℕ) → hs ≡ heights_of t ids → IsKept (with_node t p) (hand_after t ids count) (heights_after count hs)
-  kept_plain hs same = subst (λ (v : Table). IsKept v (hand_after t ids count) (heights_after count hs)) (plain t p) (kept-next t ids t.texts (same_texts t draft.program) [] count [] [] p draft over_plain hs same next_plain)
+  kept_plain hs same = subst (λ (v : Table). IsKept v (hand_after t ids count) (heights_after count hs)) (plain t p)
+      (kept-next t ids t.texts (same_texts t draft.program) [] count [] [] p draft over_plain hs same next_plain)
 
   puts_plain : PutsNode (record { table = t; nodes = ids }) (record { table = with_node t p; nodes = hand_after t ids count }) p count
   unfolding in_hand
   puts_plain = record {
     table = refl;
-    hand = subst (λ (v : Table). trees_of v (hand_after t ids count) ≡ tree_of v (tree_at t) (length t.nodes) p.node ∷ drop count (trees_of t ids)) (plain t p) (hand-next t ids t.texts (same_texts t draft.program) [] count [] [] p draft over_plain);
+    hand = subst (λ (v : Table). trees_of v (hand_after t ids count) ≡ tree_of v (tree_at t) (length t.nodes) p.node ∷ drop count (trees_of t ids)) (plain t p)
+        (hand-next t ids t.texts (same_texts t draft.program) [] count [] [] p draft over_plain);
     roots = subst (λ (v : Table). KeepsRoots t v) (plain t p) (roots-next t ids t.texts (same_texts t draft.program) [] count [] [] p draft);
   }
 

@@ -25,7 +25,8 @@ unfolding in_hand
 enough_nodes d n has = omega (arith, has.enough, length-hand d.table d.nodes)
 
 -- the trees on top, by the nodes there
-pub two_on_top : (d : Unfinished) (a b : NodeId) → 2 ≤ length d.nodes → last_nodes 2 d.nodes ≡ a ∷ last_nodes 1 d.nodes → last_nodes 1 d.nodes ≡ b ∷ last_nodes 0 d.nodes → in_hand d ≡ tree_at d.table b.0 ∷ tree_at d.table a.0 ∷ drop 2 (in_hand d)
+pub two_on_top : (d : Unfinished) (a b : NodeId) → 2 ≤ length d.nodes → last_nodes 2 d.nodes ≡ a ∷ last_nodes 1 d.nodes → last_nodes 1 d.nodes ≡ b ∷ last_nodes 0 d.nodes
+    → in_hand d ≡ tree_at d.table b.0 ∷ tree_at d.table a.0 ∷ drop 2 (in_hand d)
 unfolding in_hand
 two_on_top d a b enough two one = next-hand d.table d.nodes 0 b (omega arith) one ∙ ap (λ ts. tree_at d.table b.0 ∷ ts) (next-hand d.table d.nodes 1 a enough two)
 
@@ -57,7 +58,8 @@ module _ (d : Unfinished) (place : ℕ × ℕ) (room : length d.table.nodes < NO
       → HasPlaces (with_node d.table (placed_at n place)) n → IsKnownIn (with_node d.table (placed_at n place)) (length d.table.nodes) n → CanPut d (placed_at n place) 1
   unary_can n e has last exprs blocks places known = can_put d (placed_at n place) 1 room has (exprs ∙ sym (ap numbers_of (last_one d.table d.nodes e last))) blocks places known
 
-  pub if_can : (c a b : NodeId) → HasBranches (in_hand d) → last_nodes 3 d.nodes ≡ c ∷ last_nodes 2 d.nodes → last_nodes 2 d.nodes ≡ a ∷ last_nodes 1 d.nodes → last_nodes 1 d.nodes ≡ b ∷ last_nodes 0 d.nodes → CanPut d (placed_at (node.If c a b) place) 3
+  pub if_can : (c a b : NodeId) → HasBranches (in_hand d) → last_nodes 3 d.nodes ≡ c ∷ last_nodes 2 d.nodes → last_nodes 2 d.nodes ≡ a ∷ last_nodes 1 d.nodes
+      → last_nodes 1 d.nodes ≡ b ∷ last_nodes 0 d.nodes → CanPut d (placed_at (node.If c a b) place) 3
   if_can c a b has three two one =
       let parts = subst HasBranches (three_on_top d c a b (three_nodes d has) three two one) has in
       record {
@@ -108,7 +110,8 @@ module _ (d new : Unfinished) (place : ℕ × ℕ) where
       → PutsNode d new (placed_at (node.While c b) place) 2 → Puts d new place while_over
   while_puts c b has two one h = puts d (placed_at (node.While c b) place) 2 new while_over h (sym (ap (while_over (length d.table.nodes)) (two_on_top d c b (two_nodes d has) two one)))
 
-  pub binary_puts : (op : Op) (a b : NodeId) → HasExprs 2 (in_hand d) → last_nodes 2 d.nodes ≡ a ∷ last_nodes 1 d.nodes → last_nodes 1 d.nodes ≡ b ∷ last_nodes 0 d.nodes → PutsNode d new (placed_at (node.Binary op a b) place) 2 → Puts d new place (binary_over op)
+  pub binary_puts : (op : Op) (a b : NodeId) → HasExprs 2 (in_hand d) → last_nodes 2 d.nodes ≡ a ∷ last_nodes 1 d.nodes → last_nodes 1 d.nodes ≡ b ∷ last_nodes 0 d.nodes
+      → PutsNode d new (placed_at (node.Binary op a b) place) 2 → Puts d new place (binary_over op)
   binary_puts op a b has two one h =
       puts d (placed_at (node.Binary op a b) place) 2 new (binary_over op) h (sym (ap (binary_over op (length d.table.nodes)) (two_on_top d a b (enough_nodes d 2 has) two one)))
 

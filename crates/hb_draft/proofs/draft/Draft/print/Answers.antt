@@ -14,7 +14,8 @@ pub put-requires : goal.put-requires
 put-requires c = rw c.placed.ensures (unary_can c.args.self.now c.args.place c.requires.room (node.Print c.on_top-e.result) c.on_top-e.result c.requires.parts c.on_top-e.ensures refl refl tt tt)
 
 pub returns-clause-put : goal.returns-clause-put
-returns-clause-put c = on_ok_weaker c.put.result (λ h. unary_puts c.args.self.now c.put.new.self c.args.place (node.Print c.on_top-e.result) c.on_top-e.result TPrint c.requires.parts c.on_top-e.ensures refl (rw c.placed.ensures at h)) c.put.ensures
+returns-clause-put c = on_ok_weaker c.put.result (λ h. unary_puts c.args.self.now c.put.new.self c.args.place
+    (node.Print c.on_top-e.result) c.on_top-e.result TPrint c.requires.parts c.on_top-e.ensures refl (rw c.placed.ensures at h)) c.put.ensures
 
 pub returns-clause-made : goal.returns-clause-made
 returns-clause-made c = on_ok_weaker c.put.result (node-made c.args.self.now c.put.new.self c.args.place (unary_over TPrint)) (returns-clause-put c)
