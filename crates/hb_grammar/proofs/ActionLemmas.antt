@@ -1,5 +1,6 @@
 -- What the actions of a run say of the language.
-use Rattle.std.proofs.Common.{◌≡◌, ℕ, suc, zero, ◌+◌, ◌-◌, ◌<◌, ◌≤◌, List, [], ◌∷◌, ◌++◌, true, Option, Some, None, refl, sym, ◌∙◌, ap, subst, inl, inr, length, arith, drop, take, append_assoc, length-append, length-drop}
+use Rattle.std.proofs.Common.{◌≡◌, ℕ, suc, zero, ◌+◌, ◌-◌, ◌<◌, ◌≤◌, List, [], ◌∷◌, ◌++◌, true, Option, Some, None, refl, sym, ◌∙◌, ap, subst, inl, inr, length, arith, drop}
+use Rattle.std.proofs.Common.{take, append_assoc, length-append, length-drop}
 use Rattle.std.proofs.lemmas.Bool.{cases_Bool, cond-true, cond-false, le-leb, lt-leb}
 use Rattle.std.proofs.lemmas.List.{length-map, length-take-le}
 use Rattle.std.specs.List.{AllByRecursion}
@@ -31,10 +32,7 @@ use Rattle.hb_grammar.proofs.CourseLemmas.{Does-token, Does-phrase, Does-action,
 
 pub translates-run : (n : ℕ) (stack : List Symbol) (at : ℕ) (tokens : List TokenKind) → run n stack tokens ≡ Done → Translates n stack at tokens (acts n stack at tokens)
 unfolding run acts
-translates-run zero stack at tokens e = absurd (cc)
 translates-run (suc n) [] at [] e = (refl, refl)
-translates-run (suc n) [] at (t ∷ ts) e = absurd (cc)
-translates-run (suc n) (T j ∷ stack) at [] e = absurd (cc)
 translates-run (suc n) (T j ∷ stack) at (t ∷ ts) e = elim (cases_Bool (kind_eq t j)) [
   | inl y ↦
       let rest : Translates n stack (at + 1) ts (acts n stack (at + 1) ts) = translates-run n stack (at + 1) ts (sym (cond-true (kind_eq t j) (run n stack ts) (Missed (wanted_for j) (length (t ∷ ts))) y) ∙ e) in
@@ -44,6 +42,7 @@ translates-run (suc n) (T j ∷ stack) at (t ∷ ts) e = elim (cases_Bool (kind_
 ]
 translates-run (suc n) (A a ∷ stack) at tokens e = (acts n stack at tokens, refl, translates-run n stack at tokens e)
 translates-run (suc n) (N sort ∷ stack) at tokens e = (choice (alternatives sort) (front tokens), is_choice sort tokens, translates-run n (choice (alternatives sort) (front tokens) ++ stack) at tokens e)
+translates-run _ stack at tokens e = absurd (cc)
 
 pub has_actions : (tokens : List Token) (done : List Act) → Does program 0 (kinds_of tokens) done Done → HasActions (kinds_of tokens) done
 has_actions tokens done d = (d.steps, subst (λ (z : List Act). Translates d.steps program 0 (kinds_of tokens) z) d.acts (translates-run d.steps program 0 (kinds_of tokens) d.ends))
@@ -84,7 +83,8 @@ has_translation (A a ∷ stack) at =
 has_translation (N sort ∷ stack) at =
     let h : HasTranslation stack (at + length (phrase_of sort)) = has_translation stack (at + length (phrase_of sort)) in
     let d : Translates 40 (N sort ∷ []) at (phrase_of sort) (acts 40 (N sort ∷ []) at (phrase_of sort)) = translates-run 40 (N sort ∷ []) at (phrase_of sort) (phrase_done sort) in
-    let r : (k : ℕ) × Translates k (N sort ∷ stack) at (phrase_of sort ++ h.tokens) (acts 40 (N sort ∷ []) at (phrase_of sort) ++ h.done) = Translates-append 40 h.steps (N sort ∷ []) stack at (phrase_of sort) h.tokens (acts 40 (N sort ∷ []) at (phrase_of sort)) h.done d h.translates in
+    let r : (k : ℕ) × Translates k (N sort ∷ stack) at (phrase_of sort ++ h.tokens) (acts 40 (N sort ∷ []) at (phrase_of sort) ++ h.done) = Translates-append 40 h.steps (N sort ∷ []) stack at
+         (phrase_of sort) h.tokens (acts 40 (N sort ∷ []) at (phrase_of sort)) h.done d h.translates in
     record { tokens = phrase_of sort ++ h.tokens; done = acts 40 (N sort ∷ []) at (phrase_of sort) ++ h.done; steps = r.0; translates = r.1 }
 
 -- an action comes behind the tokens that were read before
@@ -128,7 +128,8 @@ acts_at_once j stack at tokens w e h =
       late = each_weaker (λ x. at + 1 ≤ x.at) (λ x. at + 0 < x.at) (λ x k. omega (arith, k)) whole.done (translates-behind whole.steps stack (at + 1) whole.tokens whole.done whole.translates);
     }
 
-acts_token : (j t : TokenKind) (stack : List Symbol) (at : ℕ) (ts : List TokenKind) (w : Wanted) (left : ℕ) (done : List Act) → t ≡ j → FollowsActs stack (at + 1) ts w left done → FollowsActs (T j ∷ stack) at (t ∷ ts) w left done
+acts_token : (j t : TokenKind) (stack : List Symbol) (at : ℕ) (ts : List TokenKind) (w : Wanted) (left : ℕ) (done : List Act) → t ≡ j → FollowsActs stack (at + 1) ts w left done
+    → FollowsActs (T j ∷ stack) at (t ∷ ts) w left done
 acts_token j t stack at ts w left done same r = record {
   before = t ∷ r.before;
   rest = r.rest;
@@ -142,7 +143,8 @@ acts_token j t stack at ts w left done same r = record {
   late = each_weaker (λ x. at + 1 + length r.before < x.at) (λ x. at + length (t ∷ r.before) < x.at) (λ x h. omega (arith, h)) r.later r.late;
 }
 
-acts_action : (a : Action) (stack : List Symbol) (at : ℕ) (tokens : List TokenKind) (w : Wanted) (left : ℕ) (done : List Act) → FollowsActs stack at tokens w left done → FollowsActs (A a ∷ stack) at tokens w left (act a at ∷ done)
+acts_action : (a : Action) (stack : List Symbol) (at : ℕ) (tokens : List TokenKind) (w : Wanted) (left : ℕ) (done : List Act) → FollowsActs stack at tokens w left done
+    → FollowsActs (A a ∷ stack) at tokens w left (act a at ∷ done)
 acts_action a stack at tokens w left done r = record {
   before = r.before;
   rest = r.rest;
@@ -156,7 +158,8 @@ acts_action a stack at tokens w left done r = record {
   late = r.late;
 }
 
-acts_phrase : (sort : Sort) (stack : List Symbol) (at : ℕ) (tokens : List TokenKind) (w : Wanted) (left : ℕ) (done : List Act) → FollowsActs (choice (alternatives sort) (front tokens) ++ stack) at tokens w left done → FollowsActs (N sort ∷ stack) at tokens w left done
+acts_phrase : (sort : Sort) (stack : List Symbol) (at : ℕ) (tokens : List TokenKind) (w : Wanted) (left : ℕ) (done : List Act)
+    → FollowsActs (choice (alternatives sort) (front tokens) ++ stack) at tokens w left done → FollowsActs (N sort ∷ stack) at tokens w left done
 acts_phrase sort stack at tokens w left done r = record {
   before = r.before;
   rest = r.rest;
@@ -170,7 +173,8 @@ acts_phrase sort stack at tokens w left done r = record {
   late = r.late;
 }
 
-follows-acts : (n : ℕ) (stack : List Symbol) (at : ℕ) (tokens : List TokenKind) (w : Wanted) (left : ℕ) → IsSigned (front tokens) stack → run n stack tokens ≡ Missed w left → FollowsActs stack at tokens w left (acts n stack at tokens)
+follows-acts : (n : ℕ) (stack : List Symbol) (at : ℕ) (tokens : List TokenKind) (w : Wanted) (left : ℕ) → IsSigned (front tokens) stack → run n stack tokens ≡ Missed w left
+    → FollowsActs stack at tokens w left (acts n stack at tokens)
 unfolding run acts
 follows-acts zero stack at tokens w left g e = absurd (cc)
 follows-acts (suc n) [] at [] w left g e = absurd (cc)
@@ -184,23 +188,27 @@ follows-acts (suc n) (T j ∷ stack) at [] w left g e =
     subst P h (acts_at_once j stack at [] w (sym (same_want e)) (signed_first None j stack g refl))
 follows-acts (suc n) (T j ∷ stack) at (t ∷ ts) w left g e = elim (cases_Bool (kind_eq t j)) [
   | inl y ↦
-      let r : FollowsActs stack (at + 1) ts w left (acts n stack (at + 1) ts) = follows-acts n stack (at + 1) ts w left (inl (signed_tail t j stack g)) (sym (cond-true (kind_eq t j) (run n stack ts) (Missed (wanted_for j) (length (t ∷ ts))) y) ∙ e) in
+      let r : FollowsActs stack (at + 1) ts w left (acts n stack (at + 1) ts) = follows-acts n stack (at + 1) ts w left (inl (signed_tail t j stack g))
+           (sym (cond-true (kind_eq t j) (run n stack ts) (Missed (wanted_for j) (length (t ∷ ts))) y) ∙ e) in
       let same : acts (suc n) (T j ∷ stack) at (t ∷ ts) ≡ acts n stack (at + 1) ts = cond-true (kind_eq t j) (acts n stack (at + 1) ts) [] y in
       subst (λ (z : List Act). FollowsActs (T j ∷ stack) at (t ∷ ts) w left z) (sym same) (acts_token j t stack at ts w left (acts n stack (at + 1) ts) (same_kind t j y) r)
   | inr f ↦
       let z : Missed (wanted_for j) (length (t ∷ ts)) ≡ Missed w left = sym (cond-false (kind_eq t j) (run n stack ts) (Missed (wanted_for j) (length (t ∷ ts))) f) ∙ e in
       let h : length (t ∷ ts) ≡ left = cc z in
       let none : acts (suc n) (T j ∷ stack) at (t ∷ ts) ≡ [] = cond-false (kind_eq t j) (acts n stack (at + 1) ts) [] f in
-      let r : FollowsActs (T j ∷ stack) at (t ∷ ts) w left [] = subst (λ (x : ℕ). FollowsActs (T j ∷ stack) at (t ∷ ts) w x []) h (acts_at_once j stack at (t ∷ ts) w (sym (same_want z)) (signed_first (Some t) j stack g f)) in
+      let r : FollowsActs (T j ∷ stack) at (t ∷ ts) w left [] = subst (λ (x : ℕ). FollowsActs (T j ∷ stack) at (t ∷ ts) w x []) h
+           (acts_at_once j stack at (t ∷ ts) w (sym (same_want z)) (signed_first (Some t) j stack g f)) in
       subst (λ (x : List Act). FollowsActs (T j ∷ stack) at (t ∷ ts) w left x) (sym none) r
 ]
 follows-acts (suc n) (A a ∷ stack) at tokens w left g e = acts_action a stack at tokens w left (acts n stack at tokens) (follows-acts n stack at tokens w left (inl (signed_action (front tokens) a stack g)) e)
 follows-acts (suc n) (N sort ∷ stack) at tokens w left g e =
     let ok : signs_ok (alternatives sort) ≡ true = holds_of (λ (x : Sort). signs_ok (alternatives x)) sorts sort all_signs (is_sort sort) in
-    let r : FollowsActs (choice (alternatives sort) (front tokens) ++ stack) at tokens w left (acts n (choice (alternatives sort) (front tokens) ++ stack) at tokens) = follows-acts n (choice (alternatives sort) (front tokens) ++ stack) at tokens w left (signed_choice (alternatives sort) (front tokens) stack ok (signed_sort (front tokens) sort stack g)) e in
+    let r : FollowsActs (choice (alternatives sort) (front tokens) ++ stack) at tokens w left (acts n (choice (alternatives sort) (front tokens) ++ stack) at tokens) = follows-acts n
+         (choice (alternatives sort) (front tokens) ++ stack) at tokens w left (signed_choice (alternatives sort) (front tokens) stack ok (signed_sort (front tokens) sort stack g)) e in
     acts_phrase sort stack at tokens w left (acts n (choice (alternatives sort) (front tokens) ++ stack) at tokens) r
 
-first_actions : (kinds : List TokenKind) (at : ℕ) (w : Wanted) (done : List Act) (n : ℕ) → at ≤ length kinds → run n program kinds ≡ Missed w (length (drop at kinds)) → acts n program 0 kinds ≡ done → HasFirstActions kinds at w done
+first_actions : (kinds : List TokenKind) (at : ℕ) (w : Wanted) (done : List Act) (n : ℕ) → at ≤ length kinds → run n program kinds ≡ Missed w (length (drop at kinds))
+    → acts n program 0 kinds ≡ done → HasFirstActions kinds at w done
 first_actions kinds at w done n within ends same =
     let r : FollowsActs program 0 kinds w (length (drop at kinds)) (acts n program 0 kinds) = follows-acts n program 0 kinds w (length (drop at kinds)) (inl refl) ends in
     let q : FollowsActs program 0 kinds w (length (drop at kinds)) done = subst (λ (z : List Act). FollowsActs program 0 kinds w (length (drop at kinds)) z) same r in
@@ -215,7 +223,8 @@ first_actions kinds at w done n within ends same =
       behind = each_weaker (λ x. 0 + length q.before < x.at) (λ x. at < x.at) (λ x h. omega (arith, h, place)) q.later q.late;
     }
 
-pub has_first_actions : (tokens : List Token) (at : ℕ) (w : Wanted) (done : List Act) → Does program 0 (kinds_of tokens) done (Missed w (length tokens - at)) → at ≤ length tokens → HasFirstActions (kinds_of tokens) at w done
+pub has_first_actions : (tokens : List Token) (at : ℕ) (w : Wanted) (done : List Act) → Does program 0 (kinds_of tokens) done (Missed w (length tokens - at)) → at ≤ length tokens
+    → HasFirstActions (kinds_of tokens) at w done
 has_first_actions tokens at w done d within =
     let count : length (kinds_of tokens) ≡ length tokens = length-map tokens (λ token. token.kind) in
     let rest : length tokens - at ≡ length (drop at (kinds_of tokens)) = omega (arith, count, length-drop at (kinds_of tokens)) in
@@ -329,8 +338,10 @@ translates-until (suc n) (suc m) (A x ∷ stack) at before s more more' a b f d 
     ap (λ (z : List Act). until (at + length before) z) d.1 ∙ until-early (at + length before) (act x at) d.0 here ∙ ap (λ (z : List Act). act x at ∷ z) same
     ∙ sym (until-early (at + length before) (act x at) e.0 here) ∙ ap (λ (z : List Act). until (at + length before) z) (sym e.1)
 translates-until (suc n) (suc m) (N sort ∷ stack) at before s more more' a b f d e =
-    let left_one : choice (alternatives sort) (front (before ++ with_sign s more)) ≡ d.0 = choice-derives n sort stack (before ++ with_sign s more) d.0 f d.1 (derives-translates n (d.0 ++ stack) at (before ++ with_sign s more) a d.2) in
-    let right_one : choice (alternatives sort) (front (before ++ with_sign s more')) ≡ e.0 = choice-derives m sort stack (before ++ with_sign s more') e.0 f e.1 (derives-translates m (e.0 ++ stack) at (before ++ with_sign s more') b e.2) in
+    let left_one : choice (alternatives sort) (front (before ++ with_sign s more)) ≡ d.0 = choice-derives n sort stack (before ++ with_sign s more) d.0 f d.1
+         (derives-translates n (d.0 ++ stack) at (before ++ with_sign s more) a d.2) in
+    let right_one : choice (alternatives sort) (front (before ++ with_sign s more')) ≡ e.0 = choice-derives m sort stack (before ++ with_sign s more') e.0 f e.1
+         (derives-translates m (e.0 ++ stack) at (before ++ with_sign s more') b e.2) in
     let same : e.0 ≡ d.0 = sym right_one ∙ ap (λ z. choice (alternatives sort) z) (front-sign before s more' more) ∙ left_one in
     translates-until n m (d.0 ++ stack) at before s more more' a b (IsFollowed-phrase sort stack d.0 d.1 f) d.2 (subst (λ (z : List Symbol). Translates m (z ++ stack) at (before ++ with_sign s more') b) same e.2)
 

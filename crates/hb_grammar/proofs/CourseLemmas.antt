@@ -29,7 +29,8 @@ Does-token j t stack at tokens done o same r =
       acts = cond-true (kind_eq t j) (acts r.steps stack (at + 1) tokens) [] y ∙ r.acts;
     }
 
-pub Does-phrase : (s : Sort) (stack : List Symbol) (at : ℕ) (tokens : List TokenKind) (done : List Act) (o : Outcome) → Does (choice (alternatives s) (front tokens) ++ stack) at tokens done o → Does (N s ∷ stack) at tokens done o
+pub Does-phrase : (s : Sort) (stack : List Symbol) (at : ℕ) (tokens : List TokenKind) (done : List Act) (o : Outcome) → Does (choice (alternatives s) (front tokens) ++ stack) at tokens done o
+    → Does (N s ∷ stack) at tokens done o
 unfolding run acts
 Does-phrase s stack at tokens done o r = record { steps = suc r.steps; ends = r.ends; acts = r.acts }
 
@@ -63,28 +64,23 @@ module _ (P : List Symbol → List TokenKind → Type 0) (token : (j : TokenKind
     (phrase : (s : Sort) (stack : List Symbol) (tokens : List TokenKind) → P (N s ∷ stack) tokens → P (choice (alternatives s) (front tokens) ++ stack) tokens) where
   pub Turns-keep : (n : ℕ) (stack : List Symbol) (tokens : List TokenKind) (stack' : List Symbol) (tokens' : List TokenKind) → Turns n stack tokens stack' tokens' → P stack tokens → P stack' tokens'
   Turns-keep zero stack tokens stack' tokens' w p = subst (λ (z : List Symbol). P z tokens') w.0 (subst (λ (z : List TokenKind). P stack z) w.1 p)
-  Turns-keep (suc n) [] tokens stack' tokens' w p = absurd w
-  Turns-keep (suc n) (T j ∷ stack) [] stack' tokens' w p = absurd w
   Turns-keep (suc n) (T j ∷ stack) (t ∷ ts) stack' tokens' w p = Turns-keep n stack ts stack' tokens' w.1 (token j stack ts (subst (λ (z : TokenKind). P (T j ∷ stack) (z ∷ ts)) w.0 p))
-  Turns-keep (suc n) (A a ∷ stack) tokens stack' tokens' w p = absurd w
   Turns-keep (suc n) (N s ∷ stack) tokens stack' tokens' w p = Turns-keep n (choice (alternatives s) (front tokens) ++ stack) tokens stack' tokens' w (phrase s stack tokens p)
+  Turns-keep _ _ _ _ _ w _ = absurd w
 
   pub Leads-keep : (stack : List Symbol) (tokens : List TokenKind) (stack' : List Symbol) (tokens' : List TokenKind) → Leads stack tokens stack' tokens' → P stack tokens → P stack' tokens'
   Leads-keep stack tokens stack' tokens' l p = Turns-keep l.turns stack tokens stack' tokens' l.way p
 
 Turns-append : (n m : ℕ) (stack : List Symbol) (tokens : List TokenKind) (stack' : List Symbol) (tokens' : List TokenKind) (stack'' : List Symbol) (tokens'' : List TokenKind)
     → Turns n stack tokens stack' tokens' → Turns m stack' tokens' stack'' tokens'' → (k : ℕ) × Turns k stack tokens stack'' tokens''
-Turns-append zero m stack tokens stack' tokens' stack'' tokens'' v w = (m, subst (λ (z : List Symbol). Turns m z tokens stack'' tokens'') (sym v.0) (subst (λ (z : List TokenKind). Turns m stack' z stack'' tokens'') (sym v.1) w))
-Turns-append (suc n) m [] tokens stack' tokens' stack'' tokens'' v w = absurd v
-Turns-append (suc n) m (T j ∷ stack) [] stack' tokens' stack'' tokens'' v w = absurd v
+Turns-append zero m stack tokens stack' tokens' stack'' tokens'' v w =
+    (m, subst (λ (z : List Symbol). Turns m z tokens stack'' tokens'') (sym v.0) (subst (λ (z : List TokenKind). Turns m stack' z stack'' tokens'') (sym v.1) w))
 Turns-append (suc n) m (T j ∷ stack) (t ∷ ts) stack' tokens' stack'' tokens'' v w =
     let r : (k : ℕ) × Turns k stack ts stack'' tokens'' = Turns-append n m stack ts stack' tokens' stack'' tokens'' v.1 w in (suc r.0, (v.0, r.1))
-Turns-append (suc n) m (A a ∷ stack) tokens stack' tokens' stack'' tokens'' v w = absurd v
 Turns-append (suc n) m (N s ∷ stack) tokens stack' tokens' stack'' tokens'' v w =
-    let r : (k : ℕ) × Turns k (choice (alternatives s) (front tokens) ++ stack) tokens stack'' tokens'' = Turns-append n m (choice (alternatives s) (front tokens) ++ stack) tokens stack' tokens' stack'' tokens'' v w in (suc r.0, r.1)
-
-pub Leads-here : (stack : List Symbol) (tokens : List TokenKind) → Leads stack tokens stack tokens
-Leads-here stack tokens = record { turns = 0; way = (refl, refl) }
+    let r : (k : ℕ) × Turns k (choice (alternatives s) (front tokens) ++ stack) tokens stack'' tokens'' = Turns-append n m
+         (choice (alternatives s) (front tokens) ++ stack) tokens stack' tokens' stack'' tokens'' v w in (suc r.0, r.1)
+Turns-append _ _ _ _ _ _ _ _ v _ = absurd v
 
 pub Leads-on : (stack : List Symbol) (tokens : List TokenKind) (stack' : List Symbol) (tokens' : List TokenKind) (stack'' : List Symbol) (tokens'' : List TokenKind)
     → Leads stack tokens stack' tokens' → Leads stack' tokens' stack'' tokens'' → Leads stack tokens stack'' tokens''
@@ -98,11 +94,9 @@ Does-turns : (n : ℕ) (stack : List Symbol) (tokens : List TokenKind) (stack' :
 Does-turns zero stack tokens stack' tokens' at at' done o w e r =
     let same : at' ≡ at = omega (arith, e, ap length w.1) in
     subst (λ (z : ℕ). Does stack z tokens done o) same (subst (λ (z : List Symbol). Does z at' tokens done o) (sym w.0) (subst (λ (z : List TokenKind). Does stack' at' z done o) (sym w.1) r))
-Does-turns (suc n) [] tokens stack' tokens' at at' done o w e r = absurd w
-Does-turns (suc n) (T j ∷ stack) [] stack' tokens' at at' done o w e r = absurd w
 Does-turns (suc n) (T j ∷ stack) (t ∷ ts) stack' tokens' at at' done o w e r = Does-token j t stack at ts done o w.0 (Does-turns n stack ts stack' tokens' (at + 1) at' done o w.1 (omega (arith, e)) r)
-Does-turns (suc n) (A a ∷ stack) tokens stack' tokens' at at' done o w e r = absurd w
 Does-turns (suc n) (N s ∷ stack) tokens stack' tokens' at at' done o w e r = Does-phrase s stack at tokens done o (Does-turns n (choice (alternatives s) (front tokens) ++ stack) tokens stack' tokens' at at' done o w e r)
+Does-turns _ _ _ _ _ _ _ _ _ w _ _ = absurd w
 
 pub Does-leads : (stack : List Symbol) (tokens : List TokenKind) (stack' : List Symbol) (tokens' : List TokenKind) (at at' : ℕ) (done : List Act) (o : Outcome)
     → Leads stack tokens stack' tokens' → at' + length tokens' ≡ at + length tokens → Does stack' at' tokens' done o → Does stack at tokens done o
@@ -119,14 +113,13 @@ Does-comes old new a done o c r = Does-reaches old.ahead (left old) a new.ahead 
 -- ── less is left to do ──
 
 Turns-size : (n : ℕ) (stack : List Symbol) (tokens : List TokenKind) (stack' : List Symbol) (tokens' : List TokenKind) → Turns n stack tokens stack' tokens' → potential stack' tokens' ≤ potential stack tokens
-Turns-size zero stack tokens stack' tokens' w = subst (λ (z : List Symbol). potential z tokens' ≤ potential stack tokens) w.0 (subst (λ (z : List TokenKind). potential stack z ≤ potential stack tokens) w.1 (omega (arith)))
-Turns-size (suc n) [] tokens stack' tokens' w = absurd w
-Turns-size (suc n) (T j ∷ stack) [] stack' tokens' w = absurd w
+Turns-size zero stack tokens stack' tokens' w = subst (λ (z : List Symbol). potential z tokens' ≤ potential stack tokens) w.0
+    (subst (λ (z : List TokenKind). potential stack z ≤ potential stack tokens) w.1 (omega (arith)))
 Turns-size (suc n) (T j ∷ stack) (t ∷ ts) stack' tokens' w =
     let y : is_kind (Some t) j ≡ true = ap (λ (z : TokenKind). kind_eq z j) w.0 ∙ kind_same j in
     omega (arith, Turns-size n stack ts stack' tokens' w.1, potential-token j t stack ts y)
-Turns-size (suc n) (A a ∷ stack) tokens stack' tokens' w = absurd w
 Turns-size (suc n) (N s ∷ stack) tokens stack' tokens' w = omega (arith, Turns-size n (choice (alternatives s) (front tokens) ++ stack) tokens stack' tokens' w, potential-phrase s stack tokens)
+Turns-size _ _ _ _ _ w = absurd w
 
 pub nearer : (old new : Course) (a : Action) → ComesTo old a new → size new < size old
 nearer old new a c = omega (arith, Turns-size c.reached.turns old.ahead (left old) (A a ∷ new.ahead) (left new) c.reached.way, potential-action a new.ahead (left new))
@@ -224,7 +217,8 @@ stops old tokens read stack mid j w same within started top f named l =
     let here : List TokenKind = drop read (kinds_of tokens) in
     let new : Course = record { tokens = tokens; ahead = reverse mid; read = read } in
     let l' : Leads old.ahead (left old) (T j ∷ reverse mid) here = subst (λ (z : List Symbol). Leads old.ahead (left old) z here) (popped stack mid (T j) top) l in
-    let r : Does old.ahead old.read (left old) [] (Missed (wanted_for j) (length here)) = does_here old new (T j ∷ reverse mid) [] (Missed (wanted_for j) (length here)) same started within l' (Does-missed j (reverse mid) read here f) in
+    let r : Does old.ahead old.read (left old) [] (Missed (wanted_for j) (length here)) = does_here old new (T j ∷ reverse mid) [] (Missed (wanted_for j) (length here)) same started within l'
+         (Does-missed j (reverse mid) read here f) in
     record { tokens = same; within = within; does = subst (λ (z : Wanted). Does old.ahead old.read (left old) [] (Missed z (length here))) (sym named) r }
 
 pub stops_behind : (old : Course) (tokens : List Token) (read : ℕ) (stack : List Symbol) → tokens ≡ old.tokens → read < length tokens → old.read ≤ length old.tokens → reverse stack ≡ []

@@ -60,16 +60,14 @@ missed_not_done e = cc
 
 pub derives-run : (n : ℕ) (stack : List Symbol) (tokens : List TokenKind) → run n stack tokens ≡ Done → Derives n stack tokens
 unfolding run
-derives-run zero stack tokens e = absurd (cc)
 derives-run (suc n) [] [] e = refl
-derives-run (suc n) [] (t ∷ ts) e = absurd (cc)
-derives-run (suc n) (T j ∷ stack) [] e = absurd (cc)
 derives-run (suc n) (T j ∷ stack) (t ∷ ts) e = elim (cases_Bool (kind_eq t j)) [
   | inl y ↦ (ts, ap (λ x. x ∷ ts) (same_kind t j y), derives-run n stack ts (sym (cond-true (kind_eq t j) (run n stack ts) (Missed (wanted_for j) (length (t ∷ ts))) y) ∙ e))
   | inr f ↦ absurd (missed_not_done (sym (cond-false (kind_eq t j) (run n stack ts) (Missed (wanted_for j) (length (t ∷ ts))) f) ∙ e))
 ]
 derives-run (suc n) (A a ∷ stack) tokens e = derives-run n stack tokens e
 derives-run (suc n) (N sort ∷ stack) tokens e = (choice (alternatives sort) (front tokens), is_choice sort tokens, derives-run n (choice (alternatives sort) (front tokens) ++ stack) tokens e)
+derives-run _ stack tokens e = absurd (cc)
 
 -- ── where a run ends early ──
 
@@ -106,12 +104,8 @@ ends_at o w left e = let P = λ (x : Outcome). EndsAt x left in subst P (sym e) 
 pub excludes : (n : ℕ) (stack : List Symbol) (before rest : List TokenKind) (w : Wanted) → IsFollowed stack → run n stack (before ++ rest) ≡ Missed w (length rest)
     → (m : ℕ) (more : List TokenKind) → Derives m stack (before ++ with_first rest more) → ⊥
 unfolding run
-excludes zero stack before rest w f e m more d = absurd (cc)
 excludes (suc n) stack before rest w f e zero more d = d
 excludes (suc n) [] [] [] w f e (suc m) more d = absurd (cc)
-excludes (suc n) [] [] (t ∷ ts) w f e (suc m) more d = absurd (cc)
-excludes (suc n) [] (t ∷ ts) rest w f e (suc m) more d = absurd (cc)
-excludes (suc n) (T j ∷ stack) [] [] w f e (suc m) more d = absurd (cc)
 excludes (suc n) (T j ∷ stack) [] (t ∷ ts) w f e (suc m) more d =
     let same : t ≡ j = cc (d.1) in
     let y : kind_eq t j ≡ true = rw same (kind_same j) in
@@ -129,6 +123,7 @@ excludes (suc n) (N sort ∷ stack) before rest w f e (suc m) more d =
     let same : choice (alternatives sort) (front (before ++ rest)) ≡ d.0 = sym (ap (λ x. choice (alternatives sort) x) (front-with_first before rest more)) ∙ chosen in
     let P = λ (p : List Symbol). run n (p ++ stack) (before ++ rest) ≡ Missed w (length rest) in
     excludes n (d.0 ++ stack) before rest w (IsFollowed-phrase sort stack d.0 d.1 f) (subst P same e) m more d.2
+excludes _ stack before rest w f e m more d = absurd (cc)
 
 -- ── each stack has a sentence ──
 
@@ -148,71 +143,25 @@ Derives-append (suc n) m (N sort ∷ a) b x y d e =
 
 -- a short phrase of each sort
 pub phrase_of : Sort → List TokenKind
-phrase_of g.Program = []
-phrase_of g.Classes = []
-phrase_of g.Scripts = []
-phrase_of g.Block = []
-phrase_of g.Items = []
-phrase_of g.MoreItems = []
 phrase_of g.Expression = k.Number ∷ []
-phrase_of g.AfterName = []
 phrase_of g.OtherUnary = k.Number ∷ []
 phrase_of g.Method = k.ClassName ∷ k.Dot ∷ k.Name ∷ []
 phrase_of g.MethodName = k.Name ∷ []
 phrase_of g.Signature = k.OpenParen ∷ k.CloseParen ∷ k.Arrow ∷ k.TyNil ∷ []
-phrase_of g.Types = []
-phrase_of g.MoreTypes = []
 phrase_of g.TypeWord = k.TyNil ∷ []
-phrase_of g.MoreComparison = []
 phrase_of g.Sum = k.Number ∷ []
-phrase_of g.MoreSum = []
 phrase_of g.Product = k.Number ∷ []
-phrase_of g.MoreProduct = []
 phrase_of g.Unary = k.Number ∷ []
 phrase_of g.Postfix = k.Number ∷ []
-phrase_of g.MorePostfix = []
-phrase_of g.Arguments = []
-phrase_of g.ArgumentList = []
-phrase_of g.MoreArguments = []
 phrase_of g.Primary = k.Number ∷ []
 phrase_of g.Value = k.Number ∷ []
 phrase_of g.ElsePart = k.KwEnd ∷ []
-phrase_of g.Parameters = []
-phrase_of g.MoreParameters = []
+phrase_of _ = []
 
 pub phrase_done : (sort : Sort) → run 40 (N sort ∷ []) (phrase_of sort) ≡ Done
 unfolding run phrase_of
 phrase_done g.Program = refl
-phrase_done g.Classes = refl
-phrase_done g.Scripts = refl
-phrase_done g.Block = refl
-phrase_done g.Items = refl
-phrase_done g.MoreItems = refl
-phrase_done g.Expression = refl
-phrase_done g.AfterName = refl
-phrase_done g.OtherUnary = refl
-phrase_done g.Method = refl
-phrase_done g.MethodName = refl
-phrase_done g.Signature = refl
-phrase_done g.Types = refl
-phrase_done g.MoreTypes = refl
-phrase_done g.TypeWord = refl
-phrase_done g.MoreComparison = refl
-phrase_done g.Sum = refl
-phrase_done g.MoreSum = refl
-phrase_done g.Product = refl
-phrase_done g.MoreProduct = refl
-phrase_done g.Unary = refl
-phrase_done g.Postfix = refl
-phrase_done g.MorePostfix = refl
-phrase_done g.Arguments = refl
-phrase_done g.ArgumentList = refl
-phrase_done g.MoreArguments = refl
-phrase_done g.Primary = refl
-phrase_done g.Value = refl
-phrase_done g.ElsePart = refl
-phrase_done g.Parameters = refl
-phrase_done g.MoreParameters = refl
+phrase_done _ = refl
 
 pub has_sentence : (stack : List Symbol) → (more : List TokenKind) × IsSentence stack more
 has_sentence [] = ([], (1, refl))
@@ -245,7 +194,8 @@ begins-run (suc n) (T j ∷ stack) [] left e = at_once (T j ∷ stack) [] left e
 begins-run (suc n) (T j ∷ stack) (t ∷ ts) left e = elim (cases_Bool (kind_eq t j)) [
   | inl y ↦ let P = λ (o : Outcome). EndsAt o left in
       let r : BeginsBefore stack ts left = begins-run n stack ts left (subst P (cond-true (kind_eq t j) (run n stack ts) (Missed (wanted_for j) (length (t ∷ ts))) y) e) in
-      record { before = t ∷ r.before; rest = r.rest; cut = ap (λ x. t ∷ x) r.cut; here = r.here; begins = (r.begins.0, (suc r.begins.1.0, (r.before ++ r.begins.0, ap (λ x. x ∷ (r.before ++ r.begins.0)) (same_kind t j y), r.begins.1.1))) }
+      record { before = t ∷ r.before; rest = r.rest; cut = ap (λ x. t ∷ x) r.cut; here = r.here;
+          begins = (r.begins.0, (suc r.begins.1.0, (r.before ++ r.begins.0, ap (λ x. x ∷ (r.before ++ r.begins.0)) (same_kind t j y), r.begins.1.1))) }
   | inr f ↦ let P = λ (o : Outcome). EndsAt o left in at_once (T j ∷ stack) (t ∷ ts) left (subst P (cond-false (kind_eq t j) (run n stack ts) (Missed (wanted_for j) (length (t ∷ ts))) f) e)
 ]
 begins-run (suc n) (A a ∷ stack) tokens left e =

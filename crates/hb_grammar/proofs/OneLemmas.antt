@@ -44,19 +44,7 @@ of-rank n = get_or wants n want.Item
 rank-back : (w : Wanted) → of-rank (rank w) ≡ w
 unfolding of-rank
 rank-back want.End = refl
-rank-back want.Then = refl
-rank-back want.Do = refl
-rank-back want.Close = refl
-rank-back want.Expression = refl
-rank-back want.Name = refl
-rank-back want.TypeWord = refl
-rank-back want.ClassName = refl
-rank-back want.Open = refl
-rank-back want.Dot = refl
-rank-back want.Colon = refl
-rank-back want.Arrow = refl
-rank-back want.New = refl
-rank-back want.Item = refl
+rank-back _ = refl
 
 pub one-wanted : (tokens : List TokenKind) (a b : ℕ) (v w : Wanted) → Misses tokens a v → Misses tokens b w → v ≡ w
 one-wanted tokens a b v w x y =

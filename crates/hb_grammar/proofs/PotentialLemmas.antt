@@ -40,50 +40,8 @@ abbrev pub is_light : Option TokenKind → Sort → Bool
 is_light sight s = nat_lt (weights (choice (alternatives s) sight)) (if is_next (choice (alternatives s) sight) sight then 40 + weight s else weight s)
 
 all_light : (sight : Option TokenKind) → list_all (is_light sight) sorts ≡ true
-all_light None = refl
 all_light (Some k.KwClass) = refl
-all_light (Some k.KwSetup) = refl
-all_light (Some k.KwScript) = refl
-all_light (Some k.KwType) = refl
-all_light (Some k.KwTypeAsk) = refl
-all_light (Some k.KwDef) = refl
-all_light (Some k.KwEnd) = refl
-all_light (Some k.KwIf) = refl
-all_light (Some k.KwThen) = refl
-all_light (Some k.KwElse) = refl
-all_light (Some k.KwWhile) = refl
-all_light (Some k.KwDo) = refl
-all_light (Some k.KwNil) = refl
-all_light (Some k.KwTrue) = refl
-all_light (Some k.KwFalse) = refl
-all_light (Some k.KwSelf) = refl
-all_light (Some k.KwNew) = refl
-all_light (Some k.KwNot) = refl
-all_light (Some k.KwPrint) = refl
-all_light (Some k.KwStr) = refl
-all_light (Some k.TyNil) = refl
-all_light (Some k.TyBool) = refl
-all_light (Some k.TyInt) = refl
-all_light (Some k.TyStr) = refl
-all_light (Some k.TyAny) = refl
-all_light (Some k.OpenParen) = refl
-all_light (Some k.CloseParen) = refl
-all_light (Some k.Comma) = refl
-all_light (Some k.Colon) = refl
-all_light (Some k.Dot) = refl
-all_light (Some k.Assign) = refl
-all_light (Some k.Equals) = refl
-all_light (Some k.Less) = refl
-all_light (Some k.Plus) = refl
-all_light (Some k.Minus) = refl
-all_light (Some k.Times) = refl
-all_light (Some k.Concat) = refl
-all_light (Some k.Arrow) = refl
-all_light (Some k.Name) = refl
-all_light (Some k.ClassName) = refl
-all_light (Some k.Number) = refl
-all_light (Some k.Text) = refl
-all_light (Some k.Separator) = refl
+all_light _ = refl
 
 light : (s : Sort) (sight : Option TokenKind) → is_light sight s ≡ true
 light s sight = holds_of (is_light sight) sorts s (all_light sight) (is_sort s)
@@ -99,11 +57,8 @@ light-other s sight f =
     let h : weights (choice (alternatives s) sight) < (if is_next (choice (alternatives s) sight) sight then 40 + weight s else weight s) = ltb-true _ _ (light s sight) in omega (arith, e, h)
 
 next-some : (stack : List Symbol) (tokens : List TokenKind) → is_next stack (front tokens) ≡ true → 0 < length tokens
-next-some [] tokens y = absurd (both_ways false refl y)
-next-some (A a ∷ stack) tokens y = absurd (both_ways false refl y)
-next-some (N s ∷ stack) tokens y = absurd (both_ways false refl y)
-next-some (T j ∷ stack) [] y = absurd (both_ways false refl y)
 next-some (T j ∷ stack) (t ∷ tokens) y = omega arith
+next-some _ _ y = absurd (both_ways false refl y)
 
 -- the potential of a phrase in front of a stack
 potential-front : (phrase stack : List Symbol) (tokens : List TokenKind) (most : ℕ)

@@ -71,7 +71,9 @@ followed : (sort : Sort) (sight : Option TokenKind) (phrase : List Symbol) → I
 followed sort sight phrase one = holds_of (λ p. is_followed p (may_follow sort sight) sight) (alternatives sort) phrase (and_parts _ _ (right sort sight)).1 one
 
 kinds : List TokenKind
-kinds = k.KwClass ∷ k.KwSetup ∷ k.KwScript ∷ k.KwType ∷ k.KwTypeAsk ∷ k.KwDef ∷ k.KwEnd ∷ k.KwIf ∷ k.KwThen ∷ k.KwElse ∷ k.KwWhile ∷ k.KwDo ∷ k.KwNil ∷ k.KwTrue ∷ k.KwFalse ∷ k.KwSelf ∷ k.KwNew ∷ k.KwNot ∷ k.KwPrint ∷ k.KwStr ∷ k.TyNil ∷ k.TyBool ∷ k.TyInt ∷ k.TyStr ∷ k.TyAny ∷ k.OpenParen ∷ k.CloseParen ∷ k.Comma ∷ k.Colon ∷ k.Dot ∷ k.Assign ∷ k.Equals ∷ k.Less ∷ k.Plus ∷ k.Minus ∷ k.Times ∷ k.Concat ∷ k.Arrow ∷ k.Name ∷ k.ClassName ∷ k.Number ∷ k.Text ∷ k.Separator ∷ []
+kinds = k.KwClass ∷ k.KwSetup ∷ k.KwScript ∷ k.KwType ∷ k.KwTypeAsk ∷ k.KwDef ∷ k.KwEnd ∷ k.KwIf ∷ k.KwThen ∷ k.KwElse ∷ k.KwWhile ∷ k.KwDo ∷ k.KwNil ∷ k.KwTrue ∷ k.KwFalse ∷ k.KwSelf ∷ k.KwNew ∷
+    k.KwNot ∷ k.KwPrint ∷ k.KwStr ∷ k.TyNil ∷ k.TyBool ∷ k.TyInt ∷ k.TyStr ∷ k.TyAny ∷ k.OpenParen ∷ k.CloseParen ∷ k.Comma ∷ k.Colon ∷ k.Dot ∷ k.Assign ∷ k.Equals ∷ k.Less ∷ k.Plus ∷ k.Minus ∷
+    k.Times ∷ k.Concat ∷ k.Arrow ∷ k.Name ∷ k.ClassName ∷ k.Number ∷ k.Text ∷ k.Separator ∷ []
 
 decode : ℕ → TokenKind
 decode n = get_or kinds n k.Name
@@ -79,48 +81,7 @@ decode n = get_or kinds n k.Name
 decode-code : (j : TokenKind) → decode (code j) ≡ j
 unfolding decode kinds
 decode-code k.KwClass = refl
-decode-code k.KwSetup = refl
-decode-code k.KwScript = refl
-decode-code k.KwType = refl
-decode-code k.KwTypeAsk = refl
-decode-code k.KwDef = refl
-decode-code k.KwEnd = refl
-decode-code k.KwIf = refl
-decode-code k.KwThen = refl
-decode-code k.KwElse = refl
-decode-code k.KwWhile = refl
-decode-code k.KwDo = refl
-decode-code k.KwNil = refl
-decode-code k.KwTrue = refl
-decode-code k.KwFalse = refl
-decode-code k.KwSelf = refl
-decode-code k.KwNew = refl
-decode-code k.KwNot = refl
-decode-code k.KwPrint = refl
-decode-code k.KwStr = refl
-decode-code k.TyNil = refl
-decode-code k.TyBool = refl
-decode-code k.TyInt = refl
-decode-code k.TyStr = refl
-decode-code k.TyAny = refl
-decode-code k.OpenParen = refl
-decode-code k.CloseParen = refl
-decode-code k.Comma = refl
-decode-code k.Colon = refl
-decode-code k.Dot = refl
-decode-code k.Assign = refl
-decode-code k.Equals = refl
-decode-code k.Less = refl
-decode-code k.Plus = refl
-decode-code k.Minus = refl
-decode-code k.Times = refl
-decode-code k.Concat = refl
-decode-code k.Arrow = refl
-decode-code k.Name = refl
-decode-code k.ClassName = refl
-decode-code k.Number = refl
-decode-code k.Text = refl
-decode-code k.Separator = refl
+decode-code _ = refl
 
 pub same_kind : (a b : TokenKind) → kind_eq a b ≡ true → a ≡ b
 same_kind a b e = sym (decode-code a) ∙ ap decode (eqb-true (code a) (code b) e) ∙ decode-code b
@@ -148,12 +109,14 @@ may_begin-more (N sort ∷ a) x y sight f h =
     ]
 
 sort_begins_true : (m0 m1 a e : Bool) → (implies m0 a && implies m1 (a || e)) ≡ true → m1 ≡ true → (a || (e && true)) ≡ true
-sort_begins_true m0 m1 a e h b = elim (or_cases a e (implies_then m1 (a || e) (and_parts (implies m0 a) (implies m1 (a || e)) h).1 b)) [ inl p ↦ or_left a (e && true) p | inr p ↦ or_right a (e && true) (and_from e true p refl) ]
+sort_begins_true m0 m1 a e h b = elim (or_cases a e (implies_then m1 (a || e) (and_parts (implies m0 a) (implies m1 (a || e)) h).1 b))
+    [ inl p ↦ or_left a (e && true) p | inr p ↦ or_right a (e && true) (and_from e true p refl) ]
 
 sort_begins_false : (m0 m1 a e : Bool) → (implies m0 a && implies m1 (a || e)) ≡ true → m0 ≡ true → (a || (e && false)) ≡ true
 sort_begins_false m0 m1 a e h b = or_left a (e && false) (implies_then m0 a (and_parts (implies m0 a) (implies m1 (a || e)) h).0 b)
 
-sort_begins : (sort : Sort) (sight : Option TokenKind) (phrase : List Symbol) (rest : Bool) → is_start sort sight phrase ≡ true → may_begin phrase rest sight ≡ true → (among (starts sort) sight || (may_be_empty sort && rest)) ≡ true
+sort_begins : (sort : Sort) (sight : Option TokenKind) (phrase : List Symbol) (rest : Bool) → is_start sort sight phrase ≡ true → may_begin phrase rest sight ≡ true
+    → (among (starts sort) sight || (may_be_empty sort && rest)) ≡ true
 sort_begins sort sight phrase true s h = sort_begins_true (may_begin phrase false sight) (may_begin phrase true sight) (among (starts sort) sight) (may_be_empty sort) s h
 sort_begins sort sight phrase false s h = sort_begins_false (may_begin phrase false sight) (may_begin phrase true sight) (among (starts sort) sight) (may_be_empty sort) s h
 
@@ -179,7 +142,8 @@ none_of (p ∷ more) follow sight phrase h (inl e) b = let P = λ (z : List Symb
 none_of (p ∷ more) follow sight phrase h (inr r) b = none_of more follow sight phrase (and_parts _ _ h).1 r b
 
 -- the alternative that may stand before the token is the one that is chosen
-chosen : (phrases : List (List Symbol)) (follow : Bool) (sight : Option TokenKind) (phrase : List Symbol) → is_clear phrases follow sight ≡ true → IsOneOf phrases phrase → may_begin phrase follow sight ≡ true → choice phrases sight ≡ phrase
+chosen : (phrases : List (List Symbol)) (follow : Bool) (sight : Option TokenKind) (phrase : List Symbol) → is_clear phrases follow sight ≡ true → IsOneOf phrases phrase
+    → may_begin phrase follow sight ≡ true → choice phrases sight ≡ phrase
 chosen [] follow sight phrase h one b = elim one [ ]
 chosen (p ∷ []) follow sight phrase h (inl e) b = sym e
 chosen (p ∷ []) follow sight phrase h (inr r) b = elim r [ ]
@@ -188,7 +152,8 @@ chosen (p ∷ q ∷ more) follow sight phrase h one b = elim (cases_Bool (may_be
       let none : none_begins (q ∷ more) follow sight ≡ true = sym (cond-true (may_begin p false sight) (none_begins (q ∷ more) follow sight) (not (may_begin p follow sight) && is_clear (q ∷ more) follow sight) t) ∙ h in
       cond-true (may_begin p false sight) p (choice (q ∷ more) sight) t ∙ elim one [ inl e ↦ sym e | inr r ↦ absurd (none_of (q ∷ more) follow sight phrase none r b) ]
   | inr f ↦
-      let both : (not (may_begin p follow sight) && is_clear (q ∷ more) follow sight) ≡ true = sym (cond-false (may_begin p false sight) (none_begins (q ∷ more) follow sight) (not (may_begin p follow sight) && is_clear (q ∷ more) follow sight) f) ∙ h in
+      let both : (not (may_begin p follow sight) && is_clear (q ∷ more) follow sight) ≡ true = sym
+           (cond-false (may_begin p false sight) (none_begins (q ∷ more) follow sight) (not (may_begin p follow sight) && is_clear (q ∷ more) follow sight) f) ∙ h in
       let parts : (not (may_begin p follow sight) ≡ true) × (is_clear (q ∷ more) follow sight ≡ true) = and_parts _ _ both in
       cond-false (may_begin p false sight) p (choice (q ∷ more) sight) f ∙ elim one [
         | inl e ↦ let P = λ (z : List Symbol). may_begin z follow sight ≡ true in absurd (both_ways (may_begin p follow sight) (not-true _ parts.0) (subst P e b))
@@ -212,7 +177,8 @@ IsFollowed (T j ∷ stack) = IsFollowed stack
 IsFollowed (A a ∷ stack) = IsFollowed stack
 IsFollowed (N sort ∷ stack) = ((sight : Option TokenKind) → may_begin stack (is_none sight) sight ≡ true → may_follow sort sight ≡ true) × IsFollowed stack
 
-pub IsFollowed-append : (a stack : List Symbol) (follow : Option TokenKind → Bool) → ((sight : Option TokenKind) → may_begin stack (is_none sight) sight ≡ true → follow sight ≡ true) → ((sight : Option TokenKind) → is_followed a (follow sight) sight ≡ true) → IsFollowed stack → IsFollowed (a ++ stack)
+pub IsFollowed-append : (a stack : List Symbol) (follow : Option TokenKind → Bool) → ((sight : Option TokenKind) → may_begin stack (is_none sight) sight ≡ true → follow sight ≡ true)
+    → ((sight : Option TokenKind) → is_followed a (follow sight) sight ≡ true) → IsFollowed stack → IsFollowed (a ++ stack)
 IsFollowed-append [] stack follow f g h = h
 IsFollowed-append (T j ∷ a) stack follow f g h = IsFollowed-append a stack follow f g h
 IsFollowed-append (A b ∷ a) stack follow f g h = IsFollowed-append a stack follow f g h
@@ -225,7 +191,8 @@ pub IsFollowed-phrase : (sort : Sort) (stack phrase : List Symbol) → IsOneOf (
 IsFollowed-phrase sort stack phrase one h = IsFollowed-append phrase stack (may_follow sort) h.0 (λ sight. followed sort sight phrase one) h.1
 
 -- what derives the tokens behind a sort is what one token of sight chooses
-pub choice-derives : (n : ℕ) (sort : Sort) (stack : List Symbol) (tokens : List TokenKind) (phrase : List Symbol) → IsFollowed (N sort ∷ stack) → IsOneOf (alternatives sort) phrase → Derives n (phrase ++ stack) tokens → choice (alternatives sort) (front tokens) ≡ phrase
+pub choice-derives : (n : ℕ) (sort : Sort) (stack : List Symbol) (tokens : List TokenKind) (phrase : List Symbol) → IsFollowed (N sort ∷ stack) → IsOneOf (alternatives sort) phrase
+    → Derives n (phrase ++ stack) tokens → choice (alternatives sort) (front tokens) ≡ phrase
 choice-derives n sort stack tokens phrase h one d =
     let sight : Option TokenKind = front tokens in
     let begins : may_begin phrase (may_begin stack (is_none sight) sight) sight ≡ true = sym (may_begin-append phrase stack (is_none sight) sight) ∙ may_begin-derives n (phrase ++ stack) tokens d in

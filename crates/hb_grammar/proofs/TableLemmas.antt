@@ -34,17 +34,11 @@ followers g.Scripts = []
 followers g.Block = k.KwEnd ∷ k.KwElse ∷ []
 followers g.Items = k.KwEnd ∷ k.KwElse ∷ []
 followers g.MoreItems = k.KwEnd ∷ k.KwElse ∷ []
-followers g.Expression = behind_expression
-followers g.AfterName = behind_expression
 followers g.OtherUnary = behind_unary
 followers g.Method = k.OpenParen ∷ k.Colon ∷ []
 followers g.MethodName = k.OpenParen ∷ k.Colon ∷ []
-followers g.Signature = behind_expression
 followers g.Types = k.CloseParen ∷ []
 followers g.MoreTypes = k.CloseParen ∷ []
-followers g.TypeWord = behind_expression
-followers g.MoreComparison = behind_expression
-followers g.Sum = behind_expression
 followers g.MoreSum = behind_sum
 followers g.Product = behind_product
 followers g.MoreProduct = behind_product
@@ -59,6 +53,7 @@ followers g.Value = behind_primary
 followers g.ElsePart = behind_primary
 followers g.Parameters = k.CloseParen ∷ []
 followers g.MoreParameters = k.CloseParen ∷ []
+followers _ = behind_expression
 
 -- whether the token, or the end, may follow a sort
 abbrev pub may_follow : Sort → Option TokenKind → Bool
@@ -98,50 +93,10 @@ is_right sight sort =
     && list_all (λ phrase. is_followed phrase (may_follow sort sight) sight) (alternatives sort)
 
 abbrev pub sorts : List Sort
-sorts = g.Program ∷ g.Classes ∷ g.Scripts ∷ g.Block ∷ g.Items ∷ g.MoreItems ∷ g.Expression ∷ g.AfterName ∷ g.OtherUnary ∷ g.Method ∷ g.MethodName ∷ g.Signature ∷ g.Types ∷ g.MoreTypes ∷ g.TypeWord ∷ g.MoreComparison ∷ g.Sum ∷ g.MoreSum ∷ g.Product ∷ g.MoreProduct ∷ g.Unary ∷ g.Postfix ∷ g.MorePostfix ∷ g.Arguments ∷ g.ArgumentList ∷ g.MoreArguments ∷ g.Primary ∷ g.Value ∷ g.ElsePart ∷ g.Parameters ∷ g.MoreParameters ∷ []
+sorts = g.Program ∷ g.Classes ∷ g.Scripts ∷ g.Block ∷ g.Items ∷ g.MoreItems ∷ g.Expression ∷ g.AfterName ∷ g.OtherUnary ∷ g.Method ∷ g.MethodName ∷ g.Signature ∷ g.Types ∷ g.MoreTypes ∷
+    g.TypeWord ∷ g.MoreComparison ∷ g.Sum ∷ g.MoreSum ∷ g.Product ∷ g.MoreProduct ∷ g.Unary ∷ g.Postfix ∷ g.MorePostfix ∷ g.Arguments ∷ g.ArgumentList ∷ g.MoreArguments ∷ g.Primary ∷ g.Value ∷
+    g.ElsePart ∷ g.Parameters ∷ g.MoreParameters ∷ []
 
 pub all_right : (sight : Option TokenKind) → list_all (is_right sight) sorts ≡ true
-all_right None = refl
 all_right (Some k.KwClass) = refl
-all_right (Some k.KwSetup) = refl
-all_right (Some k.KwScript) = refl
-all_right (Some k.KwType) = refl
-all_right (Some k.KwTypeAsk) = refl
-all_right (Some k.KwDef) = refl
-all_right (Some k.KwEnd) = refl
-all_right (Some k.KwIf) = refl
-all_right (Some k.KwThen) = refl
-all_right (Some k.KwElse) = refl
-all_right (Some k.KwWhile) = refl
-all_right (Some k.KwDo) = refl
-all_right (Some k.KwNil) = refl
-all_right (Some k.KwTrue) = refl
-all_right (Some k.KwFalse) = refl
-all_right (Some k.KwSelf) = refl
-all_right (Some k.KwNew) = refl
-all_right (Some k.KwNot) = refl
-all_right (Some k.KwPrint) = refl
-all_right (Some k.KwStr) = refl
-all_right (Some k.TyNil) = refl
-all_right (Some k.TyBool) = refl
-all_right (Some k.TyInt) = refl
-all_right (Some k.TyStr) = refl
-all_right (Some k.TyAny) = refl
-all_right (Some k.OpenParen) = refl
-all_right (Some k.CloseParen) = refl
-all_right (Some k.Comma) = refl
-all_right (Some k.Colon) = refl
-all_right (Some k.Dot) = refl
-all_right (Some k.Assign) = refl
-all_right (Some k.Equals) = refl
-all_right (Some k.Less) = refl
-all_right (Some k.Plus) = refl
-all_right (Some k.Minus) = refl
-all_right (Some k.Times) = refl
-all_right (Some k.Concat) = refl
-all_right (Some k.Arrow) = refl
-all_right (Some k.Name) = refl
-all_right (Some k.ClassName) = refl
-all_right (Some k.Number) = refl
-all_right (Some k.Text) = refl
-all_right (Some k.Separator) = refl
+all_right _ = refl

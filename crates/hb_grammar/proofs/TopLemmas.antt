@@ -36,14 +36,16 @@ nothing_more : (stack : List Symbol) (n : ℕ) (before rest : List TokenKind) �
 nothing_more stack n before [] none x h = x [] h
 nothing_more stack n before (t ∷ ts) none x h = absurd (omega arith)
 
-one_more : (stack : List Symbol) (before rest : List TokenKind) → 0 < length rest → ((n : ℕ) (more : List TokenKind) → Derives n stack (before ++ with_first rest more) → ⊥) → Begins stack (take (length before + 1) (before ++ rest)) → ⊥
+one_more : (stack : List Symbol) (before rest : List TokenKind) → 0 < length rest → ((n : ℕ) (more : List TokenKind) → Derives n stack (before ++ with_first rest more) → ⊥)
+    → Begins stack (take (length before + 1) (before ++ rest)) → ⊥
 one_more stack before [] some x h = absurd (omega arith)
 one_more stack before (t ∷ ts) some x h =
     let e : take (length before + 1) (before ++ t ∷ ts) ++ h.0 ≡ before ++ (t ∷ h.0) = ap (λ z. z ++ h.0) (cut_after before t ts) ∙ append_assoc before (t ∷ []) h.0 in
     let P = λ (z : List TokenKind). Derives h.1.0 stack z in
     x h.1.0 h.0 (subst P e h.1.1)
 
-module _ (stack : List Symbol) (ok : IsFollowed stack) (before rest : List TokenKind) (w : Wanted) (n : ℕ) (tokens : List TokenKind) (cut : tokens ≡ before ++ rest) (ends : run n stack tokens ≡ Missed w (length rest)) where
+module _ (stack : List Symbol) (ok : IsFollowed stack) (before rest : List TokenKind) (w : Wanted) (n : ℕ) (tokens : List TokenKind) (cut : tokens ≡ before ++ rest)
+    (ends : run n stack tokens ≡ Missed w (length rest)) where
   here : run n stack (before ++ rest) ≡ Missed w (length rest)
   here = let P = λ (z : List TokenKind). run n stack z ≡ Missed w (length rest) in subst P cut ends
 
@@ -94,6 +96,3 @@ named tokens w at within r =
 
 pub misses-run : (tokens : List TokenKind) (w : Wanted) (at : ℕ) → at ≤ length tokens → Runs program tokens (Missed w (length (drop at tokens))) → Misses tokens at w
 misses-run tokens w at within r = record { missed = missed program ends_program tokens w at within r; wanted = named tokens w at within r }
-
-pub program-run : (tokens : List TokenKind) → Runs program tokens Done → IsProgramText tokens
-program-run tokens r = (r.steps, derives-run r.steps program tokens r.ends)

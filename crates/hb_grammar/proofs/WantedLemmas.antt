@@ -46,31 +46,9 @@ cap g.Scripts = 13
 cap g.Block = 0
 cap g.Items = 0
 cap g.MoreItems = 0
-cap g.Expression = 3
-cap g.AfterName = 3
-cap g.OtherUnary = 3
 cap g.Method = 10
 cap g.MethodName = 10
-cap g.Signature = 3
-cap g.Types = 3
-cap g.MoreTypes = 3
-cap g.TypeWord = 3
-cap g.MoreComparison = 3
-cap g.Sum = 3
-cap g.MoreSum = 3
-cap g.Product = 3
-cap g.MoreProduct = 3
-cap g.Unary = 3
-cap g.Postfix = 3
-cap g.MorePostfix = 3
-cap g.Arguments = 3
-cap g.ArgumentList = 3
-cap g.MoreArguments = 3
-cap g.Primary = 3
-cap g.Value = 3
-cap g.ElsePart = 3
-cap g.Parameters = 3
-cap g.MoreParameters = 3
+cap _ = 3
 
 abbrev pub is_empty : List Symbol → Bool
 is_empty [] = true
@@ -109,50 +87,8 @@ abbrev pub is_taken : Option TokenKind → Sort → Bool
 is_taken sight sort = implies (among (starts sort) sight) (may_begin (choice (alternatives sort) sight) false sight) && implies (may_be_empty sort) (may_begin (choice (alternatives sort) sight) true sight)
 
 all_taken : (sight : Option TokenKind) → list_all (is_taken sight) sorts ≡ true
-all_taken None = refl
 all_taken (Some k.KwClass) = refl
-all_taken (Some k.KwSetup) = refl
-all_taken (Some k.KwScript) = refl
-all_taken (Some k.KwType) = refl
-all_taken (Some k.KwTypeAsk) = refl
-all_taken (Some k.KwDef) = refl
-all_taken (Some k.KwEnd) = refl
-all_taken (Some k.KwIf) = refl
-all_taken (Some k.KwThen) = refl
-all_taken (Some k.KwElse) = refl
-all_taken (Some k.KwWhile) = refl
-all_taken (Some k.KwDo) = refl
-all_taken (Some k.KwNil) = refl
-all_taken (Some k.KwTrue) = refl
-all_taken (Some k.KwFalse) = refl
-all_taken (Some k.KwSelf) = refl
-all_taken (Some k.KwNew) = refl
-all_taken (Some k.KwNot) = refl
-all_taken (Some k.KwPrint) = refl
-all_taken (Some k.KwStr) = refl
-all_taken (Some k.TyNil) = refl
-all_taken (Some k.TyBool) = refl
-all_taken (Some k.TyInt) = refl
-all_taken (Some k.TyStr) = refl
-all_taken (Some k.TyAny) = refl
-all_taken (Some k.OpenParen) = refl
-all_taken (Some k.CloseParen) = refl
-all_taken (Some k.Comma) = refl
-all_taken (Some k.Colon) = refl
-all_taken (Some k.Dot) = refl
-all_taken (Some k.Assign) = refl
-all_taken (Some k.Equals) = refl
-all_taken (Some k.Less) = refl
-all_taken (Some k.Plus) = refl
-all_taken (Some k.Minus) = refl
-all_taken (Some k.Times) = refl
-all_taken (Some k.Concat) = refl
-all_taken (Some k.Arrow) = refl
-all_taken (Some k.Name) = refl
-all_taken (Some k.ClassName) = refl
-all_taken (Some k.Number) = refl
-all_taken (Some k.Text) = refl
-all_taken (Some k.Separator) = refl
+all_taken _ = refl
 
 taken : (sort : Sort) (sight : Option TokenKind) → is_taken sight sort ≡ true
 taken sort sight = holds_of (is_taken sight) sorts sort (all_taken sight) (is_sort sort)
@@ -164,9 +100,15 @@ wanted sort = holds_of is_wanted sorts sort all_wanted (is_sort sort)
 
 choice_begins : (sort : Sort) (sight : Option TokenKind) (rest : Bool) → (among (starts sort) sight || (may_be_empty sort && rest)) ≡ true → may_begin (choice (alternatives sort) sight) rest sight ≡ true
 choice_begins sort sight rest h = elim (or_cases (among (starts sort) sight) (may_be_empty sort && rest) h) [
-  | inl e ↦ may_begin-more (choice (alternatives sort) sight) false rest sight (λ x. absurd (both_ways false refl x)) (implies_then (among (starts sort) sight) (may_begin (choice (alternatives sort) sight) false sight) (and_parts (implies (among (starts sort) sight) (may_begin (choice (alternatives sort) sight) false sight)) (implies (may_be_empty sort) (may_begin (choice (alternatives sort) sight) true sight)) (taken sort sight)).0 e)
+  | inl e ↦ may_begin-more (choice (alternatives sort) sight) false rest sight (λ x. absurd (both_ways false refl x))
+      (implies_then (among (starts sort) sight) (may_begin (choice (alternatives sort) sight) false sight)
+      (and_parts (implies (among (starts sort) sight) (may_begin (choice (alternatives sort) sight) false sight))
+      (implies (may_be_empty sort) (may_begin (choice (alternatives sort) sight) true sight)) (taken sort sight)).0 e)
   | inr e ↦ let p : (may_be_empty sort ≡ true) × (rest ≡ true) = and_parts (may_be_empty sort) rest e in
-      may_begin-more (choice (alternatives sort) sight) true rest sight (λ x. p.1) (implies_then (may_be_empty sort) (may_begin (choice (alternatives sort) sight) true sight) (and_parts (implies (among (starts sort) sight) (may_begin (choice (alternatives sort) sight) false sight)) (implies (may_be_empty sort) (may_begin (choice (alternatives sort) sight) true sight)) (taken sort sight)).1 p.0)
+      may_begin-more (choice (alternatives sort) sight) true rest sight (λ x. p.1)
+          (implies_then (may_be_empty sort) (may_begin (choice (alternatives sort) sight) true sight)
+          (and_parts (implies (among (starts sort) sight) (may_begin (choice (alternatives sort) sight) false sight))
+          (implies (may_be_empty sort) (may_begin (choice (alternatives sort) sight) true sight)) (taken sort sight)).1 p.0)
 ]
 
 goes_on : (n : ℕ) (stack : List Symbol) (tokens : List TokenKind) (w : Wanted) → run n stack tokens ≡ Missed w (length tokens) → may_begin stack (is_none (front tokens)) (front tokens) ≡ true → ⊥
@@ -238,7 +180,8 @@ IsCapped-append (N sort ∷ a) stack most h o c =
     )
 
 IsCapped-phrase : (sort : Sort) (stack phrase : List Symbol) → IsOneOf (alternatives sort) phrase → IsCapped (N sort ∷ stack) → IsCapped (phrase ++ stack)
-IsCapped-phrase sort stack phrase one c = IsCapped-append phrase stack (cap sort) (holds_of (λ p. is_capped p (cap sort)) (alternatives sort) phrase (and_parts (covers sort) (list_all (λ p. is_capped p (cap sort)) (alternatives sort)) (wanted sort)).1 one) c.0 c.1
+IsCapped-phrase sort stack phrase one c = IsCapped-append phrase stack (cap sort)
+    (holds_of (λ p. is_capped p (cap sort)) (alternatives sort) phrase (and_parts (covers sort) (list_all (λ p. is_capped p (cap sort)) (alternatives sort)) (wanted sort)).1 one) c.0 c.1
 
 -- the last alternative is chosen where no other begins with the token
 last_or_begins : (phrases : List (List Symbol)) (sight : Option TokenKind) → (choice phrases sight ≡ last_of phrases) ⊎ (may_begin (choice phrases sight) false sight ≡ true)
@@ -254,14 +197,21 @@ last_or_begins (p ∷ q ∷ more) sight = elim (cases_Bool (may_begin p false si
 last_offers : (sort : Sort) (stack : List Symbol) (w : Wanted) → Offers stack (cap sort) → may_begin (N sort ∷ stack) (is_none (sign w)) (sign w) ≡ true → Offers (last_of (alternatives sort) ++ stack) (rank w)
 last_offers sort stack w o b =
     let last : List Symbol = last_of (alternatives sort) in
-    let parts : (implies (may_be_empty sort) (is_empty (last_of (alternatives sort))) ≡ true) × (list_all (λ w. implies (among (starts sort) (sign w)) (has_want (last_of (alternatives sort)) (rank w) || (is_empty (last_of (alternatives sort)) && nat_le (cap sort) (rank w)))) wants ≡ true) = and_parts _ _ (and_parts (covers sort) (list_all (λ p. is_capped p (cap sort)) (alternatives sort)) (wanted sort)).0 in
+    let parts : (implies (may_be_empty sort) (is_empty (last_of (alternatives sort))) ≡ true)
+         × (list_all (λ w. implies (among (starts sort) (sign w)) (has_want (last_of (alternatives sort)) (rank w) || (is_empty (last_of (alternatives sort)) && nat_le (cap sort) (rank w))))
+         wants ≡ true) = and_parts _ _ (and_parts (covers sort) (list_all (λ p. is_capped p (cap sort)) (alternatives sort)) (wanted sort)).0 in
     elim (or_cases (among (starts sort) (sign w)) (may_be_empty sort && may_begin stack (is_none (sign w)) (sign w)) b) [
-      | inl e ↦ elim (or_cases (has_want (last_of (alternatives sort)) (rank w)) (is_empty (last_of (alternatives sort)) && nat_le (cap sort) (rank w)) (implies_then (among (starts sort) (sign w)) (has_want (last_of (alternatives sort)) (rank w) || (is_empty (last_of (alternatives sort)) && nat_le (cap sort) (rank w))) (holds_of (λ w. implies (among (starts sort) (sign w)) (has_want (last_of (alternatives sort)) (rank w) || (is_empty (last_of (alternatives sort)) && nat_le (cap sort) (rank w)))) wants w parts.1 (is_want w)) e)) [
+      | inl e ↦ elim (or_cases (has_want (last_of (alternatives sort)) (rank w)) (is_empty (last_of (alternatives sort)) && nat_le (cap sort) (rank w)) (implies_then
+          (among (starts sort) (sign w)) (has_want (last_of (alternatives sort)) (rank w) || (is_empty (last_of (alternatives sort)) && nat_le (cap sort) (rank w)))
+          (holds_of (λ w. implies (among (starts sort) (sign w)) (has_want (last_of (alternatives sort)) (rank w) || (is_empty (last_of (alternatives sort)) && nat_le (cap sort) (rank w)))) wants
+          w parts.1 (is_want w)) e)) [
         | inl h ↦ offers_front (last_of (alternatives sort)) stack (rank w) h
-        | inr h ↦ let q : (is_empty (last_of (alternatives sort)) ≡ true) × (nat_le (cap sort) (rank w) ≡ true) = and_parts _ _ h in offers_behind (last_of (alternatives sort)) stack (cap sort) (rank w) q.0 (leb-true (cap sort) (rank w) q.1) o
+        | inr h ↦ let q : (is_empty (last_of (alternatives sort)) ≡ true) × (nat_le (cap sort) (rank w) ≡ true) = and_parts _ _ h in
+            offers_behind (last_of (alternatives sort)) stack (cap sort) (rank w) q.0 (leb-true (cap sort) (rank w) q.1) o
       ]
       | inr e ↦ let q : (may_be_empty sort ≡ true) × (may_begin stack (is_none (sign w)) (sign w) ≡ true) = and_parts _ _ e in
-          offers_behind (last_of (alternatives sort)) stack (rank w) (rank w) (implies_then (may_be_empty sort) (is_empty (last_of (alternatives sort))) parts.0 q.0) (omega arith) (record { want = w; low = omega arith; begins = q.1 })
+          offers_behind (last_of (alternatives sort)) stack (rank w) (rank w) (implies_then (may_be_empty sort) (is_empty (last_of (alternatives sort))) parts.0 q.0) (omega arith)
+              (record { want = w; low = omega arith; begins = q.1 })
     ]
 
 -- a missing token is named by the want that it is the sign of
@@ -282,32 +232,22 @@ want_sign want.New j h = let P = λ (x : TokenKind). rank (wanted_for x) ≤ 12 
 want_sign want.Item j h = absurd (both_ways false refl h)
 
 want_item : (w : Wanted) → is_none (sign w) ≡ true → rank want.Item ≤ rank w
-want_item want.End h = absurd (both_ways false refl h)
-want_item want.Then h = absurd (both_ways false refl h)
-want_item want.Do h = absurd (both_ways false refl h)
-want_item want.Close h = absurd (both_ways false refl h)
-want_item want.Expression h = absurd (both_ways false refl h)
-want_item want.Name h = absurd (both_ways false refl h)
-want_item want.TypeWord h = absurd (both_ways false refl h)
-want_item want.ClassName h = absurd (both_ways false refl h)
-want_item want.Open h = absurd (both_ways false refl h)
-want_item want.Dot h = absurd (both_ways false refl h)
-want_item want.Colon h = absurd (both_ways false refl h)
-want_item want.Arrow h = absurd (both_ways false refl h)
-want_item want.New h = absurd (both_ways false refl h)
 want_item want.Item h = omega arith
+want_item _ h = absurd (both_ways false refl h)
 
 pub same_want : {a b : Wanted} {m n : ℕ} → Missed a m ≡ Missed b n → a ≡ b
 same_want e = cc
 
-lowest_here : (n : ℕ) (stack : List Symbol) (tokens : List TokenKind) (w : Wanted) → IsCapped stack → run n stack tokens ≡ Missed w (length tokens) → (other : Wanted) → may_begin stack (is_none (sign other)) (sign other) ≡ true → rank w ≤ rank other
+lowest_here : (n : ℕ) (stack : List Symbol) (tokens : List TokenKind) (w : Wanted) → IsCapped stack → run n stack tokens ≡ Missed w (length tokens) → (other : Wanted)
+    → may_begin stack (is_none (sign other)) (sign other) ≡ true → rank w ≤ rank other
 unfolding run
 lowest_here zero stack tokens w c e other b = absurd (cc)
 lowest_here (suc n) [] [] w c e other b = absurd (cc)
 lowest_here (suc n) [] (t ∷ ts) w c e other b = let P = λ (x : Wanted). rank x ≤ rank other in subst P (same_want e) (want_item other b)
 lowest_here (suc n) (T j ∷ stack) [] w c e other b = let P = λ (x : Wanted). rank x ≤ rank other in subst P (same_want e) (want_sign other j b)
 lowest_here (suc n) (T j ∷ stack) (t ∷ ts) w c e other b = elim (cases_Bool (kind_eq t j)) [
-  | inl y ↦ let h : length (t ∷ ts) ≤ length ts = left_at_most n stack ts (length (t ∷ ts)) (ends_at _ w _ (sym (cond-true (kind_eq t j) (run n stack ts) (Missed (wanted_for j) (length (t ∷ ts))) y) ∙ e)) in absurd (omega arith)
+  | inl y ↦ let h : length (t ∷ ts) ≤ length ts = left_at_most n stack ts (length (t ∷ ts))
+                 (ends_at _ w _ (sym (cond-true (kind_eq t j) (run n stack ts) (Missed (wanted_for j) (length (t ∷ ts))) y) ∙ e)) in absurd (omega arith)
   | inr f ↦ let P = λ (x : Wanted). rank x ≤ rank other in subst P (same_want (sym (cond-false (kind_eq t j) (run n stack ts) (Missed (wanted_for j) (length (t ∷ ts))) f) ∙ e)) (want_sign other j b)
 ]
 lowest_here (suc n) (A a ∷ stack) tokens w c e other b = lowest_here n stack tokens w c e other b
@@ -320,7 +260,8 @@ lowest_here (suc n) (N sort ∷ stack) tokens w c e other b =
           let o : Offers (last_of (alternatives sort) ++ stack) (rank other) = last_offers sort stack other c.0 b in
           let P = λ (p : List Symbol). run n (p ++ stack) tokens ≡ Missed w (length tokens) in
           let Q = λ (p : List Symbol). IsOneOf (alternatives sort) p in
-          let h : rank w ≤ rank o.want = lowest_here n (last_of (alternatives sort) ++ stack) tokens w (IsCapped-phrase sort stack (last_of (alternatives sort)) (subst Q l (is_choice sort tokens)) c) (subst P l e) o.want o.begins in
+          let h : rank w ≤ rank o.want = lowest_here n (last_of (alternatives sort) ++ stack) tokens w
+               (IsCapped-phrase sort stack (last_of (alternatives sort)) (subst Q l (is_choice sort tokens)) c) (subst P l e) o.want o.begins in
           let k : rank o.want ≤ rank other = o.low in omega arith
     ]
 
@@ -375,7 +316,8 @@ all_signs = refl
 
 sign_ok-append : (a b : List Symbol) → sign_ok a ≡ true → sign_ok b ≡ true → sign_ok (a ++ b) ≡ true
 sign_ok-append [] b h g = g
-sign_ok-append (T j ∷ a) b h g = let p : (is_kind (sign (wanted_for j)) j ≡ true) × (sign_ok a ≡ true) = and_parts (is_kind (sign (wanted_for j)) j) (sign_ok a) h in and_from (is_kind (sign (wanted_for j)) j) (sign_ok (a ++ b)) p.0 (sign_ok-append a b p.1 g)
+sign_ok-append (T j ∷ a) b h g = let p : (is_kind (sign (wanted_for j)) j ≡ true) × (sign_ok a ≡ true) = and_parts (is_kind (sign (wanted_for j)) j) (sign_ok a) h in
+    and_from (is_kind (sign (wanted_for j)) j) (sign_ok (a ++ b)) p.0 (sign_ok-append a b p.1 g)
 sign_ok-append (A x ∷ a) b h g = sign_ok-append a b h g
 sign_ok-append (N sort ∷ a) b h g = sign_ok-append a b h g
 
@@ -456,7 +398,8 @@ follows-run (suc n) (T j ∷ stack) [] w left g e =
     subst P h (follows_at_once j stack [] w (sym (same_want e)) (signed_first None j stack g refl))
 follows-run (suc n) (T j ∷ stack) (t ∷ ts) w left g e = elim (cases_Bool (kind_eq t j)) [
   | inl y ↦ let r : Follows stack ts w left = follows-run n stack ts w left (inl (signed_tail t j stack g)) (sym (cond-true (kind_eq t j) (run n stack ts) (Missed (wanted_for j) (length (t ∷ ts))) y) ∙ e) in
-      record { before = t ∷ r.before; rest = r.rest; cut = ap (λ x. t ∷ x) r.cut; here = r.here; may = (r.may.0, (suc r.may.1.0, (r.before ++ with_sign (sign w) r.may.0, ap (λ x. x ∷ (r.before ++ with_sign (sign w) r.may.0)) (same_kind t j y), r.may.1.1))) }
+      record { before = t ∷ r.before; rest = r.rest; cut = ap (λ x. t ∷ x) r.cut; here = r.here;
+          may = (r.may.0, (suc r.may.1.0, (r.before ++ with_sign (sign w) r.may.0, ap (λ x. x ∷ (r.before ++ with_sign (sign w) r.may.0)) (same_kind t j y), r.may.1.1))) }
   | inr f ↦ let z : Missed (wanted_for j) (length (t ∷ ts)) ≡ Missed w left = sym (cond-false (kind_eq t j) (run n stack ts) (Missed (wanted_for j) (length (t ∷ ts))) f) ∙ e in
       let P = λ (x : ℕ). Follows (T j ∷ stack) (t ∷ ts) w x in
       let h : length (t ∷ ts) ≡ left = cc z in
@@ -468,5 +411,6 @@ follows-run (suc n) (A a ∷ stack) tokens w left g e =
 follows-run (suc n) (N sort ∷ stack) tokens w left g e =
     let phrase : List Symbol = choice (alternatives sort) (front tokens) in
     let ok : signs_ok (alternatives sort) ≡ true = holds_of (λ (x : Sort). signs_ok (alternatives x)) sorts sort all_signs (is_sort sort) in
-    let r : Follows (phrase ++ stack) tokens w left = follows-run n (choice (alternatives sort) (front tokens) ++ stack) tokens w left (signed_choice (alternatives sort) (front tokens) stack ok (signed_sort (front tokens) sort stack g)) e in
+    let r : Follows (phrase ++ stack) tokens w left = follows-run n (choice (alternatives sort) (front tokens) ++ stack) tokens w left
+         (signed_choice (alternatives sort) (front tokens) stack ok (signed_sort (front tokens) sort stack g)) e in
     record { before = r.before; rest = r.rest; cut = r.cut; here = r.here; may = (r.may.0, (suc r.may.1.0, (phrase, is_choice sort tokens, r.may.1.1))) }
