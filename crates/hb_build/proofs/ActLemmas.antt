@@ -9,46 +9,25 @@ use Rattle.hb_build.specs.Pile.{Slot, Operand, Closed, Item, Argument, Own, Decl
 use Rattle.hb_build.specs.Tags.{Tag, takes, leaves}
 use Rattle.hb_build.specs.Tags as tag
 use Rattle.hb_build.specs.Fits.{Stands}
-use Rattle.hb_build.proofs.TopLemmas.{Keeps, keeps-fails_if, keeps-known, keeps-complete, top-operand, top-closed, top-own, top-declaring, top-name, top-target, top-class, top-type, top-body, top-setup, top-script, top-block, top-called, top-defined, top-declared}
+use Rattle.hb_build.proofs.TopLemmas.{Keeps, keeps-fails_if, keeps-known, keeps-complete, top-operand, top-closed, top-own, top-declaring, top-name, top-target, top-class}
+use Rattle.hb_build.proofs.TopLemmas.{top-type, top-body, top-setup, top-script, top-block, top-called, top-defined, top-declared}
 
 never-stands : {X : Type 0} (rest : List Tag) (pile : List Slot) → Stands (tag.Never ∷ rest) pile → X
 never-stands rest (Operand e ∷ pile) h = absurd h
-never-stands rest (Closed b ∷ pile) h = absurd h
-never-stands rest (Item e ∷ pile) h = absurd h
-never-stands rest (Argument e ∷ pile) h = absurd h
-never-stands rest (Own p ∷ pile) h = absurd h
-never-stands rest (Declaring p ∷ pile) h = absurd h
-never-stands rest (Word x p ∷ pile) h = absurd h
-never-stands rest (Target x p ∷ pile) h = absurd h
-never-stands rest (Called m p ∷ pile) h = absurd h
-never-stands rest (OfClass c p ∷ pile) h = absurd h
-never-stands rest (Named c m ∷ pile) h = absurd h
-never-stands rest (Computed c e ∷ pile) h = absurd h
-never-stands rest (Parameter x ∷ pile) h = absurd h
-never-stands rest (OfType y ∷ pile) h = absurd h
-never-stands rest (ParameterType y ∷ pile) h = absurd h
-never-stands rest (Block ∷ pile) h = absurd h
-never-stands rest (Body ∷ pile) h = absurd h
-never-stands rest (Setup ∷ pile) h = absurd h
-never-stands rest (Script x ∷ pile) h = absurd h
-never-stands rest [] h = absurd h
+never-stands _ _ h = absurd h
 
 -- the action on a pile that has its tags over these
 module _ (rest : List Tag) (p : Spot) (bytes : List ℕ) (w : Work) where
   pub acts-keep : (done : Action) → Stands (takes done ++ rest) w.pile → Keeps (leaves done ++ rest) (act done p bytes w)
   acts-keep a.DeclareClass h = search keeps-fails_if
-  acts-keep a.BeginSetup h = h
   acts-keep a.EndSetup h = search (top-closed (tag.Setup ∷ rest), top-setup rest)
   acts-keep a.BeginScript h = search keeps-fails_if
   acts-keep a.EndScript h = search (top-closed (tag.Script ∷ rest), top-script rest, keeps-fails_if)
-  acts-keep a.BeginBlock h = h
   acts-keep a.EndBlock h = search (top-block rest, keeps-complete)
   acts-keep a.AddItem h = search (top-operand (tag.Items ∷ rest))
   acts-keep a.Open h = search keeps-fails_if
-  acts-keep a.Close h = h
   acts-keep a.OpenWord h = search keeps-fails_if
   acts-keep a.OpenAssign h = search (top-name rest, keeps-fails_if)
-  acts-keep a.HoldOperator h = h
   acts-keep a.HoldStr h = search keeps-fails_if
   acts-keep a.HoldDeclare h = search keeps-fails_if
   acts-keep a.HoldName h = search keeps-fails_if
@@ -57,12 +36,6 @@ module _ (rest : List Tag) (p : Spot) (bytes : List ℕ) (w : Work) where
   acts-keep a.NameMethod h = search (top-class rest)
   acts-keep a.ComputeMethod h = search (top-operand (tag.OfClass ∷ rest), top-class rest)
   acts-keep a.HoldParameter h = search keeps-fails_if
-  acts-keep a.BeginBody h = h
-  acts-keep (a.HoldType ty.Nil) h = h
-  acts-keep (a.HoldType ty.Bool) h = h
-  acts-keep (a.HoldType ty.Int) h = h
-  acts-keep (a.HoldType ty.Str) h = h
-  acts-keep (a.HoldType ty.Any) h = h
   acts-keep (a.HoldType (ty.Class c)) h = never-stands rest w.pile h
   acts-keep a.HoldClassType h = search keeps-known
   acts-keep a.AddParameterType h = search (top-type (tag.Method ∷ tag.Declaring ∷ rest), keeps-fails_if)
@@ -84,3 +57,4 @@ module _ (rest : List Tag) (p : Spot) (bytes : List ℕ) (w : Work) where
   acts-keep a.PutCall h = search (top-called (tag.Operand ∷ rest), top-operand rest, keeps-complete)
   acts-keep a.PutDef h = search (top-closed (tag.Body ∷ tag.Method ∷ tag.Own ∷ rest), top-body (tag.Method ∷ tag.Own ∷ rest), top-defined rest, top-own rest, keeps-complete)
   acts-keep (a.PutDeclare asks) h = search (top-type (tag.Method ∷ tag.Declaring ∷ rest), top-declared rest, top-declaring rest, keeps-complete)
+  acts-keep _ h = h

@@ -29,7 +29,8 @@ binary-top b go kept =
     let x0 = top-operand (things_of b) (in_hand b.draft) (λ e2 pile. with_own pile (λ q pile. with_operand pile (λ e1 pile. go e2 q e1 pile))) kept in
     let x1 = top-own x0.0 x0.2 (λ q pile. with_operand pile (λ e1 pile. go x0.1 q e1 pile)) x0.5 in
     let x2 = top-operand x1.0 x0.2 (λ e1 pile. go x0.1 x1.1 e1 pile) x1.3 in
-    record { rest = x2.0; spot = x1.1; e2 = x0.1; e1 = x2.1; others = x2.2; things_are = x0.3 ∙ ap (λ (x : List Held). held.Operand ∷ x) (x1.2 ∙ ap (λ (x : List Held). held.Own x1.1 ∷ x) (x2.3)); hand_is = x0.4 ∙ ap (λ (x : List Tree). x0.1 ∷ x) (x2.4) }
+    record { rest = x2.0; spot = x1.1; e2 = x0.1; e1 = x2.1; others = x2.2; things_are = x0.3 ∙ ap (λ (x : List Held). held.Operand ∷ x) (x1.2 ∙ ap (λ (x : List Held). held.Own x1.1 ∷ x) (x2.3));
+        hand_is = x0.4 ∙ ap (λ (x : List Tree). x0.1 ∷ x) (x2.4) }
 
 -- the same by what was taken off
 abbrev pub binary-retop : (b : Builder) (t : BinaryTop b) (rest : List Held) (spot : Spot) → held.Operand ∷ held.Own t.spot ∷ held.Operand ∷ t.rest ≡ held.Operand ∷ held.Own spot ∷ held.Operand ∷ rest → BinaryTop b

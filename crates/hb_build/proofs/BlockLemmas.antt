@@ -26,7 +26,8 @@ pub record IsRun (thing : Held) (n : ℕ) (things : List Held) : Type 0 where
   pub same : AllByRecursion (λ t. t ≡ thing) (take n things)
   pub ends : slice_get things n ≡ Some thing → ⊥
 
-pub run-is : (thing : Held) (n : ℕ) (xs items : List Held) → xs ≡ items → n ≤ length xs → AllByRecursion (λ t. t ≡ thing) (take n (reverse xs)) → (slice_get (reverse xs) n ≡ Some thing → ⊥) → IsRun thing n (reverse items)
+pub run-is : (thing : Held) (n : ℕ) (xs items : List Held) → xs ≡ items → n ≤ length xs → AllByRecursion (λ t. t ≡ thing) (take n (reverse xs)) → (slice_get (reverse xs) n ≡ Some thing → ⊥)
+    → IsRun thing n (reverse items)
 run-is thing n xs items e within same ends =
     subst (λ (ys : List Held). IsRun thing n (reverse ys)) e (record { within = omega (arith, within, length-reverse xs); same = same; ends = ends })
 
@@ -61,7 +62,8 @@ module _ (b : Builder) (sound : IsSound b) (n : ℕ) (run : IsRun held.Item n (t
       let t = top-block (drop n (things_of b)) (drop n (in_hand b.draft)) go (subst (λ (x : List Slot). with_block x go ≡ Lost → ⊥) below_is kept) in
       (t.0, t.1)
 
-  module _ (spot : Spot) (rest : List Held) (mark : drop n (things_of b) ≡ held.Block ∷ rest) (w : Work) (places : w.said.places ≡ (work_of b).said.places) (top : ℕ) (is_top : top ≡ highest (forest_of (last_in n (in_hand b.draft)))) where
+  module _ (spot : Spot) (rest : List Held) (mark : drop n (things_of b) ≡ held.Block ∷ rest) (w : Work) (places : w.said.places ≡ (work_of b).said.places) (top : ℕ)
+      (is_top : top ≡ highest (forest_of (last_in n (in_hand b.draft)))) where
     abbrev pub answer : Answer
     answer = with_block (below_items (pile_of b)) (λ pile. complete spot (λ id. TBlock id (forest_of (items_on (pile_of b)))) Closed pile w)
 
@@ -87,7 +89,8 @@ module _ (b : Builder) (sound : IsSound b) (n : ℕ) (run : IsRun held.Item n (t
     }
 
     good : IsGood (length b.draft.table.names) (length b.draft.table.classes) (Block ∷ piled rest (drop n (in_hand b.draft)))
-    good = subst (λ (x : List Slot). IsGood (length b.draft.table.names) (length b.draft.table.classes) x) marked (over-good held.Item Item items-listed (length b.draft.table.names) (length b.draft.table.classes) _ _ _ over sound.good)
+    good = subst (λ (x : List Slot). IsGood (length b.draft.table.names) (length b.draft.table.classes) x) marked
+        (over-good held.Item Item items-listed (length b.draft.table.names) (length b.draft.table.classes) _ _ _ over sound.good)
 
     matched-after : (node : Tree) → trees_in (held.Closed ∷ rest) ≤ length (node ∷ drop n (in_hand b.draft))
     matched-after node =

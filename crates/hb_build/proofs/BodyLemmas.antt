@@ -144,7 +144,8 @@ module _ (old new : Builder) (sound : IsSound old) (t : BodyTop old) (ends : End
 
   defined : define (parameters_on below) t.block (below_parameters below) (closed (work_of old)) ≡ definition (parameters_on below) t.block new
   defined =
-      ap₂ (λ (d : Draft) (n : ℕ). let w : Work = record (work_of old) { said = (work_of (record old { draft = d })).said; depth = n } in define (parameters_on below) t.block (below_parameters below) w) (sym ends.draft) (sym ends.depth)
+      ap₂ (λ (d : Draft) (n : ℕ). let w : Work = record (work_of old) { said = (work_of (record old { draft = d })).said; depth = n } in
+          define (parameters_on below) t.block (below_parameters below) w) (sym ends.draft) (sym ends.depth)
       ∙ ap (λ (x : List Slot). define (parameters_on below) t.block x (work_of (without_last new))) (sym pile-then)
 
   pub definition-is : answer old ≡ definition (parameters_on below) t.block new

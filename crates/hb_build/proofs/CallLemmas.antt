@@ -51,7 +51,8 @@ module _ (b : Builder) (sound : IsSound b) (n : ℕ) (run : IsRun held.Argument 
   over : Over Argument (pile_of b) (last_in n (in_hand b.draft)) (piled (drop n (things_of b)) (drop n (in_hand b.draft)))
   over = run-over held.Argument Argument arguments-listed n (things_of b) (in_hand b.draft) run.same run.within sound.matched
 
-  ended : (arguments_on (piled (drop n (things_of b)) (drop n (in_hand b.draft))) ≡ []) × (below_arguments (piled (drop n (things_of b)) (drop n (in_hand b.draft))) ≡ piled (drop n (things_of b)) (drop n (in_hand b.draft)))
+  ended : (arguments_on (piled (drop n (things_of b)) (drop n (in_hand b.draft))) ≡ [])
+      × (below_arguments (piled (drop n (things_of b)) (drop n (in_hand b.draft))) ≡ piled (drop n (things_of b)) (drop n (in_hand b.draft)))
   ended = arguments-end (drop n (things_of b)) (drop n (in_hand b.draft)) (λ e. run.ends (sym (slice_get-drop n (things_of b)) ∙ e))
 
   below_is : below_arguments (pile_of b) ≡ piled (drop n (things_of b)) (drop n (in_hand b.draft))
@@ -101,7 +102,8 @@ module _ (b : Builder) (sound : IsSound b) (n : ℕ) (run : IsRun held.Argument 
     }
 
     pub call-good : IsGood (length b.draft.table.names) (length b.draft.table.classes) (Called t.name.0 t.spot ∷ Operand t.receiver ∷ piled t.rest t.others)
-    call-good = subst (λ (x : List Slot). IsGood (length b.draft.table.names) (length b.draft.table.classes) x) marked (over-good held.Argument Argument arguments-listed (length b.draft.table.names) (length b.draft.table.classes) _ _ _ over sound.good)
+    call-good = subst (λ (x : List Slot). IsGood (length b.draft.table.names) (length b.draft.table.classes) x) marked
+        (over-good held.Argument Argument arguments-listed (length b.draft.table.names) (length b.draft.table.classes) _ _ _ over sound.good)
 
     last_one : take (n + 1) (in_hand b.draft) ≡ take n (in_hand b.draft) ++ t.receiver ∷ []
     last_one = take-add n 1 (in_hand b.draft) ∙ ap (λ (x : List Tree). take n (in_hand b.draft) ++ take 1 x) t.hand_is

@@ -12,30 +12,12 @@ use Rattle.hb_build.specs.Sound.{IsSound, trees_in, things_of, pile_of}
 
 -- nothing but an argument on top is one
 no-arguments : (things : List Held) (hand : List Tree) → (slice_get things 0 ≡ Some held.Argument → ⊥) → arguments_on (piled things hand) ≡ []
-no-arguments [] hand other = refl
 no-arguments (held.Operand ∷ things) [] other = refl
-no-arguments (held.Operand ∷ things) (e ∷ hand) other = refl
 no-arguments (held.Closed ∷ things) [] other = refl
-no-arguments (held.Closed ∷ things) (e ∷ hand) other = refl
 no-arguments (held.Item ∷ things) [] other = refl
-no-arguments (held.Item ∷ things) (e ∷ hand) other = refl
 no-arguments (held.Argument ∷ things) hand other = absurd (other refl)
 no-arguments (held.Computed c ∷ things) [] other = refl
-no-arguments (held.Computed c ∷ things) (e ∷ hand) other = refl
-no-arguments (held.Own p ∷ things) hand other = refl
-no-arguments (held.Declaring p ∷ things) hand other = refl
-no-arguments (held.Word x p ∷ things) hand other = refl
-no-arguments (held.Target x p ∷ things) hand other = refl
-no-arguments (held.Called x p ∷ things) hand other = refl
-no-arguments (held.Class c p ∷ things) hand other = refl
-no-arguments (held.Named c m ∷ things) hand other = refl
-no-arguments (held.Parameter x ∷ things) hand other = refl
-no-arguments (held.Type y ∷ things) hand other = refl
-no-arguments (held.ParameterType y ∷ things) hand other = refl
-no-arguments (held.Block ∷ things) hand other = refl
-no-arguments (held.Body ∷ things) hand other = refl
-no-arguments (held.Setup ∷ things) hand other = refl
-no-arguments (held.Script x ∷ things) hand other = refl
+no-arguments _ _ _ = refl
 
 -- the arguments on top are as many as the run of things that are arguments
 pub length-arguments : (n : ℕ) (things : List Held) (hand : List Tree) → n ≤ length things → AllByRecursion (λ t. t ≡ held.Argument) (take n things)

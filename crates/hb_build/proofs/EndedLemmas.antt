@@ -34,12 +34,6 @@ module _ (old new : Builder) (mark : Held) (slot : Slot) (b : Tree) (is : IsMark
   pub good-ended : IsSound old → IsBlock b × IsGood (length old.draft.table.names) (length old.draft.table.classes) (slot ∷ pile_of new)
   good-ended sound = subst (IsGood (length old.draft.table.names) (length old.draft.table.classes)) pile-ended sound.good
 
-  pub count-ended : IsSound old → IsCount old.scope (Closed b ∷ slot ∷ pile_of new)
-  count-ended sound = subst (IsCount old.scope) pile-ended sound.counts.0
-
-  pub scope-open : IsSound old → 0 < length old.outer.items
-  scope-open sound = omega (arith, sound.scopes, ap marks pile-ended, is.marks_are (pile_of new))
-
   pub sound-ended : IsSound old → IsGood (length old.draft.table.names) (length old.draft.table.classes) (pile_of new)
       → numbers new.scripts.items ≡ map (λ s. s.0) (scripts_in new.draft.table) → IsSound new
   sound-ended sound good named =

@@ -33,15 +33,13 @@ after-more stack None last tags end read more h = more h
 after-more stack (Some j) last tags end read more h = h
 
 pub leads-more : (stack : List Symbol) (last : Option TokenKind) (tags end : List Tag) → Leads stack (record { last = None; tags = tags }) end → Leads stack (record { last = last; tags = tags }) end
-leads-more [] last tags end h = h
-leads-more (T j ∷ stack) last tags end h = h
-leads-more (N sort ∷ stack) last tags end h = h
 leads-more (A done ∷ stack) last tags end h = (
   is_read-more (needs done) last h.0,
   h.1,
   h.2,
   after-more stack (needs done) last (leaves done ++ h.1) end h.0 (leads-more stack last (leaves done ++ h.1) end) h.3,
 )
+leads-more _ _ _ _ h = h
 
 -- ── a phrase over more tags, before more symbols ──
 
@@ -100,8 +98,6 @@ still-known (Some j) last bytes h = tt
 
 -- the action at the front of a stack that fits a pile
 module _ (done : Action) (stack : List Symbol) (s : State) (fits : Fits (A done ∷ stack) s) where
-  pub fits-needed : (j : TokenKind) → needs done ≡ Some j → s.last ≡ Some j
-  fits-needed j e = subst (λ need. IsRead need s.last) e fits.0
 
   pub fits-has_token : (bytes : List ℕ) → HasToken s.last bytes → HasToken (needs done) bytes
   fits-has_token bytes h = needed (needs done) s.last bytes fits.0 h

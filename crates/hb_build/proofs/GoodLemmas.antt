@@ -15,12 +15,8 @@ use Rattle.hb_build.specs.Sound.{IsSound, IsGood, IsTy, work_of, things_of, pile
 use Rattle.hb_build.specs.Acts.{numbered}
 
 is_ty-more : (few many : ℕ) (y : Ty) → few ≤ many → IsTy few y → IsTy many y
-is_ty-more few many ty.Nil up is = tt
-is_ty-more few many ty.Bool up is = tt
-is_ty-more few many ty.Int up is = tt
-is_ty-more few many ty.Str up is = tt
-is_ty-more few many ty.Any up is = tt
 is_ty-more few many (ty.Class c) up is = omega arith
+is_ty-more _ _ _ _ _ = tt
 
 -- a pile that is good stays so with more names and classes
 pub good-more : (names more_names classes more_classes : ℕ) (pile : List Slot) → names ≤ more_names → classes ≤ more_classes → IsGood names classes pile → IsGood more_names more_classes pile

@@ -10,14 +10,11 @@ abbrev pub tallest : List Tree → ℕ
 tallest [] = 0
 tallest (t ∷ ts) = max (height t) (tallest ts)
 
-tallest-last : (ts : List Tree) (t : Tree) → tallest (ts ++ t ∷ []) ≡ max (tallest ts) (height t)
-tallest-last [] t = omega arith
-tallest-last (x ∷ ts) t = let h : tallest (ts ++ t ∷ []) ≡ max (tallest ts) (height t) = tallest-last ts t in omega (arith, h)
-
 pub tallest-next : (hand : List Tree) (n h : ℕ) → option_map height (slice_get hand n) ≡ Some h → tallest (take (n + 1) hand) ≡ max (tallest (take n hand)) h
 tallest-next [] n h e = absurd (cc)
 tallest-next (t ∷ hand) zero h e = let same : Some (height t) ≡ Some h = e in let k : height t ≡ h = cc in omega (arith, k)
-tallest-next (t ∷ hand) (suc n) h e = rw add-one (let k : tallest (take (n + 1) hand) ≡ max (tallest (take n hand)) h = tallest-next hand n h e in let k2 : tallest (take (suc n) hand) ≡ max (tallest (take n hand)) h = subst (λ (x : ℕ). tallest (take x hand) ≡ max (tallest (take n hand)) h) (add-one n) k in omega (arith, k2))
+tallest-next (t ∷ hand) (suc n) h e = rw add-one (let k : tallest (take (n + 1) hand) ≡ max (tallest (take n hand)) h = tallest-next hand n h e in
+    let k2 : tallest (take (suc n) hand) ≡ max (tallest (take n hand)) h = subst (λ (x : ℕ). tallest (take x hand) ≡ max (tallest (take n hand)) h) (add-one n) k in omega (arith, k2))
 
 highest-append : (xs : List Tree) (t : Tree) → highest (forest_of (xs ++ t ∷ [])) ≡ max (highest (forest_of xs)) (height t)
 highest-append [] t = omega arith

@@ -24,16 +24,20 @@ pub record IfTop (b : Builder) : Type 0 where
   pub things_are : things_of b ≡ held.Closed ∷ held.Closed ∷ held.Operand ∷ held.Own spot ∷ rest
   pub hand_is : in_hand b.draft ≡ b2 ∷ b1 ∷ cond ∷ others
 
-pub if-top : (b : Builder) (go : Tree → Tree → Tree → Spot → List Slot → Answer) → (with_closed (pile_of b) (λ b2 pile. with_closed pile (λ b1 pile. with_operand pile (λ cond pile. with_own pile (λ q pile. go b2 b1 cond q pile)))) ≡ Lost → ⊥) → IfTop b
+pub if-top : (b : Builder) (go : Tree → Tree → Tree → Spot → List Slot → Answer)
+    → (with_closed (pile_of b) (λ b2 pile. with_closed pile (λ b1 pile. with_operand pile (λ cond pile. with_own pile (λ q pile. go b2 b1 cond q pile)))) ≡ Lost → ⊥) → IfTop b
 if-top b go kept =
     let x0 = top-closed (things_of b) (in_hand b.draft) (λ b2 pile. with_closed pile (λ b1 pile. with_operand pile (λ cond pile. with_own pile (λ q pile. go b2 b1 cond q pile)))) kept in
     let x1 = top-closed x0.0 x0.2 (λ b1 pile. with_operand pile (λ cond pile. with_own pile (λ q pile. go x0.1 b1 cond q pile))) x0.5 in
     let x2 = top-operand x1.0 x1.2 (λ cond pile. with_own pile (λ q pile. go x0.1 x1.1 cond q pile)) x1.5 in
     let x3 = top-own x2.0 x2.2 (λ q pile. go x0.1 x1.1 x2.1 q pile) x2.5 in
-    record { rest = x3.0; spot = x3.1; b2 = x0.1; b1 = x1.1; cond = x2.1; others = x2.2; things_are = x0.3 ∙ ap (λ (x : List Held). held.Closed ∷ x) (x1.3 ∙ ap (λ (x : List Held). held.Closed ∷ x) (x2.3 ∙ ap (λ (x : List Held). held.Operand ∷ x) (x3.2))); hand_is = x0.4 ∙ ap (λ (x : List Tree). x0.1 ∷ x) (x1.4 ∙ ap (λ (x : List Tree). x1.1 ∷ x) (x2.4)) }
+    record { rest = x3.0; spot = x3.1; b2 = x0.1; b1 = x1.1; cond = x2.1; others = x2.2;
+        things_are = x0.3 ∙ ap (λ (x : List Held). held.Closed ∷ x) (x1.3 ∙ ap (λ (x : List Held). held.Closed ∷ x) (x2.3 ∙ ap (λ (x : List Held). held.Operand ∷ x) (x3.2)));
+        hand_is = x0.4 ∙ ap (λ (x : List Tree). x0.1 ∷ x) (x1.4 ∙ ap (λ (x : List Tree). x1.1 ∷ x) (x2.4)) }
 
 -- the same by what was taken off
-abbrev pub if-retop : (b : Builder) (t : IfTop b) (rest : List Held) (spot : Spot) → held.Closed ∷ held.Closed ∷ held.Operand ∷ held.Own t.spot ∷ t.rest ≡ held.Closed ∷ held.Closed ∷ held.Operand ∷ held.Own spot ∷ rest → IfTop b
+abbrev pub if-retop : (b : Builder) (t : IfTop b) (rest : List Held) (spot : Spot)
+    → held.Closed ∷ held.Closed ∷ held.Operand ∷ held.Own t.spot ∷ t.rest ≡ held.Closed ∷ held.Closed ∷ held.Operand ∷ held.Own spot ∷ rest → IfTop b
 if-retop b t rest spot is = record { rest = rest; spot = spot; b2 = t.b2; b1 = t.b1; cond = t.cond; others = t.others; things_are = t.things_are ∙ is; hand_is = t.hand_is }
 
 module _ (b : Builder) (sound : IsSound b) (t : IfTop b) (w : Work) (places : w.said.places ≡ (work_of b).said.places) (top : ℕ) (is_top : top ≡ highest (forest_of (last_in 3 (in_hand b.draft)))) where
@@ -54,7 +58,8 @@ module _ (b : Builder) (sound : IsSound b) (t : IfTop b) (w : Work) (places : w.
     body = refl;
     nodes = omega arith;
     calls = omega arith;
-    names = sym (append_assoc (names_since (piled t.rest t.others)) (names_assigned_in t.cond ++ names_assigned_in t.b1) (names_assigned_in t.b2)) ∙ ap (λ (x : List ℕ). x ++ names_assigned_in t.b2) (sym (append_assoc (names_since (piled t.rest t.others)) (names_assigned_in t.cond) (names_assigned_in t.b1)));
+    names = sym (append_assoc (names_since (piled t.rest t.others)) (names_assigned_in t.cond ++ names_assigned_in t.b1) (names_assigned_in t.b2))
+        ∙ ap (λ (x : List ℕ). x ++ names_assigned_in t.b2) (sym (append_assoc (names_since (piled t.rest t.others)) (names_assigned_in t.cond) (names_assigned_in t.b1)));
     outer = refl;
     scopes = refl;
     pending = refl;

@@ -113,7 +113,8 @@ module _ (b : Builder) (sound : IsSound b) (make : ℕ → Tree) (is : IsLeaf ma
       let limits : IsWithin 1 (length b.draft.table.nodes) (is_over b.scope) = within 1 (length b.draft.table.nodes) (is_over b.scope) p.at e in
       let few : trees_in (held.Operand ∷ rest) ≤ length (make number ∷ in_hand b.draft) = omega (arith, below.matched) in
       let sound-after : IsSound new = sound-put b new (held.Operand ∷ rest) (make number ∷ in_hand b.draft) sound put few (is.kind number, below.good) (below.more make is number) limits.few in (
-        node-goes b sound p make Operand (piled rest (in_hand b.draft)) w places 0 (is.high number) (below.more make is number) e new (held.Operand ∷ rest) (make number ∷ in_hand b.draft) put refl place place_is said depth,
+        node-goes b sound p make Operand (piled rest (in_hand b.draft)) w places 0 (is.high number) (below.more make is number) e new (held.Operand ∷ rest)
+            (make number ∷ in_hand b.draft) put refl place place_is said depth,
         sound-after,
       )
 

@@ -39,12 +39,6 @@ count-over s slot pile quiet is = count-same s pile (slot ∷ pile) (quiet.insid
 pub count-under : (s : Scope) (slot : Slot) (pile : List Slot) → IsQuiet slot → IsCount s (slot ∷ pile) → IsCount s pile
 count-under s slot pile quiet is = count-same s (slot ∷ pile) pile (sym (quiet.inside pile)) (sym (quiet.nodes pile)) (sym (quiet.calls pile)) (sym (quiet.names pile)) is
 
-pub light-own : (p : Spot) → IsLight (held.Own p) (Own p)
-light-own p = record { lies = λ things hand. refl; trees = λ things. refl; scopes = λ pile. refl; marks_are = λ pile. refl; pending = λ pile. refl }
-
-pub quiet-own : (p : Spot) → IsQuiet (Own p)
-quiet-own p = record { inside = λ pile. refl; nodes = λ pile. refl; calls = λ pile. refl; names = λ pile. refl }
-
 pub light-word : (x : NameId) (p : Spot) → IsLight (held.Word x p) (Word x.0 p)
 light-word x p = record { lies = λ things hand. refl; trees = λ things. refl; scopes = λ pile. refl; marks_are = λ pile. refl; pending = λ pile. refl }
 
@@ -56,39 +50,3 @@ light-target x p = record { lies = λ things hand. refl; trees = λ things. refl
 
 pub light-called : (m : NameId) (p : Spot) → IsLight (held.Called m p) (Called m.0 p)
 light-called m p = record { lies = λ things hand. refl; trees = λ things. refl; scopes = λ pile. refl; marks_are = λ pile. refl; pending = λ pile. refl }
-
-pub light-class : (c : ClassId) (p : Spot) → IsLight (held.Class c p) (OfClass c.0 p)
-light-class c p = record { lies = λ things hand. refl; trees = λ things. refl; scopes = λ pile. refl; marks_are = λ pile. refl; pending = λ pile. refl }
-
-pub quiet-class : (c : ℕ) (p : Spot) → IsQuiet (OfClass c p)
-quiet-class c p = record { inside = λ pile. refl; nodes = λ pile. refl; calls = λ pile. refl; names = λ pile. refl }
-
-pub light-named : (c : ClassId) (m : NameId) → IsLight (held.Named c m) (Named c.0 m.0)
-light-named c m = record { lies = λ things hand. refl; trees = λ things. refl; scopes = λ pile. refl; marks_are = λ pile. refl; pending = λ pile. refl }
-
-pub quiet-named : (c m : ℕ) → IsQuiet (Named c m)
-quiet-named c m = record { inside = λ pile. refl; nodes = λ pile. refl; calls = λ pile. refl; names = λ pile. refl }
-
-pub light-parameter : (x : NameId) → IsLight (held.Parameter x) (Parameter x.0)
-light-parameter x = record { lies = λ things hand. refl; trees = λ things. refl; scopes = λ pile. refl; marks_are = λ pile. refl; pending = λ pile. refl }
-
-pub quiet-parameter : (x : ℕ) → IsQuiet (Parameter x)
-quiet-parameter x = record { inside = λ pile. refl; nodes = λ pile. refl; calls = λ pile. refl; names = λ pile. refl }
-
-pub light-type : (y : Ty) → IsLight (held.Type y) (OfType y)
-light-type y = record { lies = λ things hand. refl; trees = λ things. refl; scopes = λ pile. refl; marks_are = λ pile. refl; pending = λ pile. refl }
-
-pub quiet-type : (y : Ty) → IsQuiet (OfType y)
-quiet-type y = record { inside = λ pile. refl; nodes = λ pile. refl; calls = λ pile. refl; names = λ pile. refl }
-
-pub light-parameter_type : (y : Ty) → IsLight (held.ParameterType y) (ParameterType y)
-light-parameter_type y = record { lies = λ things hand. refl; trees = λ things. refl; scopes = λ pile. refl; marks_are = λ pile. refl; pending = λ pile. refl }
-
-pub quiet-parameter_type : (y : Ty) → IsQuiet (ParameterType y)
-quiet-parameter_type y = record { inside = λ pile. refl; nodes = λ pile. refl; calls = λ pile. refl; names = λ pile. refl }
-
-pub light-block : IsLight held.Block Block
-light-block = record { lies = λ things hand. refl; trees = λ things. refl; scopes = λ pile. refl; marks_are = λ pile. refl; pending = λ pile. refl }
-
-pub quiet-block : IsQuiet Block
-quiet-block = record { inside = λ pile. refl; nodes = λ pile. refl; calls = λ pile. refl; names = λ pile. refl }

@@ -59,7 +59,8 @@ pub data Over (slot : Tree → Slot) : List Slot → List Tree → List Slot →
   More : (e : Tree) (pile : List Slot) (es : List Tree) (below : List Slot) → Over slot pile es below → Over slot (slot e ∷ pile) (es ++ e ∷ []) below
 
 -- a run of such things lists the last trees in hand
-pub run-over : (thing : Held) (slot : Tree → Slot) → IsListed thing slot → (n : ℕ) (things : List Held) (hand : List Tree) → AllByRecursion (λ t. t ≡ thing) (take n things) → n ≤ length things → trees_in things ≤ length hand
+pub run-over : (thing : Held) (slot : Tree → Slot) → IsListed thing slot → (n : ℕ) (things : List Held) (hand : List Tree) → AllByRecursion (λ t. t ≡ thing) (take n things) → n ≤ length things
+    → trees_in things ≤ length hand
     → Over slot (piled things hand) (reverse (take n hand)) (piled (drop n things) (drop n hand))
 run-over thing slot is zero things hand all fits matched = Here (piled things hand)
 run-over thing slot is (suc n) [] hand all fits matched = absurd (omega (arith, fits))
@@ -69,12 +70,14 @@ run-over thing slot is (suc n) (t ∷ things) [] all fits matched =
 run-over thing slot is (suc n) (t ∷ things) (e ∷ hand) all fits matched =
     let m : trees_in (thing ∷ things) ≤ length (e ∷ hand) = subst (λ (x : Held). trees_in (x ∷ things) ≤ length (e ∷ hand)) all.0 matched in
     let r : Over slot (piled things hand) (reverse (take n hand)) (piled (drop n things) (drop n hand)) = run-over thing slot is n things hand all.1 (omega (arith, fits)) (omega (arith, m, is.trees things)) in
-    let more : Over slot (slot e ∷ piled things hand) (reverse (take n hand) ++ e ∷ []) (piled (drop n things) (drop n hand)) = More e (piled things hand) (reverse (take n hand)) (piled (drop n things) (drop n hand)) r in
+    let more : Over slot (slot e ∷ piled things hand) (reverse (take n hand) ++ e ∷ []) (piled (drop n things) (drop n hand)) = More e (piled things hand) (reverse (take n hand))
+         (piled (drop n things) (drop n hand)) r in
     let front : piled (t ∷ things) (e ∷ hand) ≡ slot e ∷ piled things hand = ap (λ (x : Held). piled (x ∷ things) (e ∷ hand)) all.0 ∙ is.pile things e hand in
     subst (λ (x : List Slot). Over slot x (reverse (take (suc n) (e ∷ hand))) (piled (drop n things) (drop n hand))) (sym front)
     (subst (λ (x : List Tree). Over slot (slot e ∷ piled things hand) x (piled (drop n things) (drop n hand))) (sym (reverse-append (e ∷ []) (take n hand))) more)
 
-pub run-trees : (thing : Held) (slot : Tree → Slot) → IsListed thing slot → (n : ℕ) (things : List Held) → AllByRecursion (λ t. t ≡ thing) (take n things) → n ≤ length things → trees_in things ≡ n + trees_in (drop n things)
+pub run-trees : (thing : Held) (slot : Tree → Slot) → IsListed thing slot → (n : ℕ) (things : List Held) → AllByRecursion (λ t. t ≡ thing) (take n things) → n ≤ length things
+    → trees_in things ≡ n + trees_in (drop n things)
 run-trees thing slot is zero things all fits = omega arith
 run-trees thing slot is (suc n) [] all fits = absurd (omega (arith, fits))
 run-trees thing slot is (suc n) (t ∷ things) all fits =
@@ -114,7 +117,8 @@ over-counts thing slot is pile es below (More e p xs b o) =
       body = is.body e p ∙ h.body;
       nodes = omega (arith, is.nodes e p, h.nodes, nodes-last xs e);
       calls = omega (arith, is.calls e p, h.calls, calls-last xs e);
-      names = is.names e p ∙ ap (λ (x : List ℕ). x ++ names_assigned_in e) h.names ∙ append_assoc (names_since b) (names_assigned_in_all (forest_of xs)) (names_assigned_in e) ∙ ap (λ (x : List ℕ). names_since b ++ x) (sym (names-last xs e));
+      names = is.names e p ∙ ap (λ (x : List ℕ). x ++ names_assigned_in e) h.names ∙ append_assoc (names_since b) (names_assigned_in_all (forest_of xs)) (names_assigned_in e)
+          ∙ ap (λ (x : List ℕ). names_since b ++ x) (sym (names-last xs e));
       outer = is.outer e p ∙ h.outer;
       scopes = is.scopes e p ∙ h.scopes;
       pending = is.pending e p ∙ h.pending;
@@ -122,12 +126,14 @@ over-counts thing slot is pile es below (More e p xs b o) =
 
 -- ── what is listed is an expression ──
 
-pub over-good : (thing : Held) (slot : Tree → Slot) → IsListed thing slot → (names classes : ℕ) (pile : List Slot) (es : List Tree) (below : List Slot) → Over slot pile es below → IsGood names classes pile → IsGood names classes below
+pub over-good : (thing : Held) (slot : Tree → Slot) → IsListed thing slot → (names classes : ℕ) (pile : List Slot) (es : List Tree) (below : List Slot) → Over slot pile es below
+    → IsGood names classes pile → IsGood names classes below
 over-good thing slot is names classes pile es below (Here p) good = good
 over-good thing slot is names classes pile es below (More e p xs b o) good = over-good thing slot is names classes p xs b o (is.good names classes e p good).1
 
 -- the last trees in hand, under a run of such things, are expressions
-pub run-exprs : (thing : Held) (slot : Tree → Slot) → IsListed thing slot → (names classes : ℕ) (n : ℕ) (things : List Held) (hand : List Tree) → AllByRecursion (λ t. t ≡ thing) (take n things) → n ≤ length things → trees_in things ≤ length hand
+pub run-exprs : (thing : Held) (slot : Tree → Slot) → IsListed thing slot → (names classes : ℕ) (n : ℕ) (things : List Held) (hand : List Tree) → AllByRecursion (λ t. t ≡ thing) (take n things)
+    → n ≤ length things → trees_in things ≤ length hand
     → IsGood names classes (piled things hand) → AllByRecursion IsExpr (take n hand)
 run-exprs thing slot is names classes zero things hand all fits matched good = tt
 run-exprs thing slot is names classes (suc n) [] hand all fits matched good = absurd (omega (arith, fits))
@@ -145,30 +151,12 @@ low-parts (t ∷ ts) most le lt all = (record { kind = all.0; low = omega (arith
 -- ── where the run ends ──
 
 pub items-end : (things : List Held) (hand : List Tree) → (slice_get things 0 ≡ Some held.Item → ⊥) → (items_on (piled things hand) ≡ []) × (below_items (piled things hand) ≡ piled things hand)
-items-end [] hand other = (refl, refl)
 items-end (held.Operand ∷ things) [] other = (refl, refl)
-items-end (held.Operand ∷ things) (e ∷ hand) other = (refl, refl)
 items-end (held.Closed ∷ things) [] other = (refl, refl)
-items-end (held.Closed ∷ things) (e ∷ hand) other = (refl, refl)
 items-end (held.Item ∷ things) hand other = absurd (other refl)
 items-end (held.Argument ∷ things) [] other = (refl, refl)
-items-end (held.Argument ∷ things) (e ∷ hand) other = (refl, refl)
 items-end (held.Computed c ∷ things) [] other = (refl, refl)
-items-end (held.Computed c ∷ things) (e ∷ hand) other = (refl, refl)
-items-end (held.Own p ∷ things) hand other = (refl, refl)
-items-end (held.Declaring p ∷ things) hand other = (refl, refl)
-items-end (held.Word x p ∷ things) hand other = (refl, refl)
-items-end (held.Target x p ∷ things) hand other = (refl, refl)
-items-end (held.Called x p ∷ things) hand other = (refl, refl)
-items-end (held.Class c p ∷ things) hand other = (refl, refl)
-items-end (held.Named c m ∷ things) hand other = (refl, refl)
-items-end (held.Parameter x ∷ things) hand other = (refl, refl)
-items-end (held.Type y ∷ things) hand other = (refl, refl)
-items-end (held.ParameterType y ∷ things) hand other = (refl, refl)
-items-end (held.Block ∷ things) hand other = (refl, refl)
-items-end (held.Body ∷ things) hand other = (refl, refl)
-items-end (held.Setup ∷ things) hand other = (refl, refl)
-items-end (held.Script x ∷ things) hand other = (refl, refl)
+items-end _ _ _ = (refl, refl)
 
 pub items-over : (pile : List Slot) (es : List Tree) (below : List Slot) → Over Item pile es below → (items_on pile ≡ items_on below ++ es) × (below_items pile ≡ below_items below)
 items-over pile es below (Here p) = (sym (append-nil (items_on p)), refl)
@@ -179,30 +167,12 @@ items-over pile es below (More e p xs b o) =
 -- ── where the run ends ──
 
 pub arguments-end : (things : List Held) (hand : List Tree) → (slice_get things 0 ≡ Some held.Argument → ⊥) → (arguments_on (piled things hand) ≡ []) × (below_arguments (piled things hand) ≡ piled things hand)
-arguments-end [] hand other = (refl, refl)
 arguments-end (held.Operand ∷ things) [] other = (refl, refl)
-arguments-end (held.Operand ∷ things) (e ∷ hand) other = (refl, refl)
 arguments-end (held.Closed ∷ things) [] other = (refl, refl)
-arguments-end (held.Closed ∷ things) (e ∷ hand) other = (refl, refl)
 arguments-end (held.Item ∷ things) [] other = (refl, refl)
-arguments-end (held.Item ∷ things) (e ∷ hand) other = (refl, refl)
 arguments-end (held.Argument ∷ things) hand other = absurd (other refl)
 arguments-end (held.Computed c ∷ things) [] other = (refl, refl)
-arguments-end (held.Computed c ∷ things) (e ∷ hand) other = (refl, refl)
-arguments-end (held.Own p ∷ things) hand other = (refl, refl)
-arguments-end (held.Declaring p ∷ things) hand other = (refl, refl)
-arguments-end (held.Word x p ∷ things) hand other = (refl, refl)
-arguments-end (held.Target x p ∷ things) hand other = (refl, refl)
-arguments-end (held.Called x p ∷ things) hand other = (refl, refl)
-arguments-end (held.Class c p ∷ things) hand other = (refl, refl)
-arguments-end (held.Named c m ∷ things) hand other = (refl, refl)
-arguments-end (held.Parameter x ∷ things) hand other = (refl, refl)
-arguments-end (held.Type y ∷ things) hand other = (refl, refl)
-arguments-end (held.ParameterType y ∷ things) hand other = (refl, refl)
-arguments-end (held.Block ∷ things) hand other = (refl, refl)
-arguments-end (held.Body ∷ things) hand other = (refl, refl)
-arguments-end (held.Setup ∷ things) hand other = (refl, refl)
-arguments-end (held.Script x ∷ things) hand other = (refl, refl)
+arguments-end _ _ _ = (refl, refl)
 
 pub arguments-over : (pile : List Slot) (es : List Tree) (below : List Slot) → Over Argument pile es below → (arguments_on pile ≡ arguments_on below ++ es) × (below_arguments pile ≡ below_arguments below)
 arguments-over pile es below (Here p) = (sym (append-nil (arguments_on p)), refl)

@@ -13,7 +13,8 @@ use Rattle.hb_build.specs.declared.held.Spot.{Spot}
 use Rattle.hb_build.specs.declared.faults.ParseFail.{ParseFail}
 use Rattle.hb_build.specs.Needs.{needs}
 use Rattle.hb_build.specs.Pile.{Slot, Operand, Closed, Own, Declaring, Word, Target, Called, OfClass, Named, Computed, OfType, Block, Body, Setup, Script}
-use Rattle.hb_build.specs.Acts.{Work, Answer, Goes, with_operand, with_closed, with_own, with_declaring, with_name, with_target, with_called, with_class, with_type, with_block, with_body, with_setup, with_script, with_method, with_known, fails_if, unless, complete, act}
+use Rattle.hb_build.specs.Acts.{Work, Answer, Goes, with_operand, with_closed, with_own, with_declaring, with_name, with_target, with_called, with_class, with_type, with_block}
+use Rattle.hb_build.specs.Acts.{with_body, with_setup, with_script, with_method, with_known, fails_if, unless, complete, act}
 
 -- where the answer goes on, these are the names
 abbrev Names : List (List ℕ) → Answer → Type 0
@@ -103,18 +104,14 @@ named _ bytes names = names
 module _ (p : Spot) (bytes : List ℕ) (w : Work) where
   acts-name : (done : Action) → Names (named (needs done) bytes w.said.names) (act done p bytes w)
   acts-name a.DeclareClass = search names-fails_if
-  acts-name a.BeginSetup = refl
   acts-name a.EndSetup = search (names-closed, names-setup)
   acts-name a.BeginScript = search names-fails_if
   acts-name a.EndScript = search (names-closed, names-script, names-fails_if)
-  acts-name a.BeginBlock = refl
   acts-name a.EndBlock = search (names-block, names-complete)
   acts-name a.AddItem = search names-operand
   acts-name a.Open = search names-fails_if
-  acts-name a.Close = refl
   acts-name a.OpenWord = search names-fails_if
   acts-name a.OpenAssign = search (names-name, names-fails_if)
-  acts-name a.HoldOperator = refl
   acts-name a.HoldStr = search names-fails_if
   acts-name a.HoldDeclare = search names-fails_if
   acts-name a.HoldName = search names-fails_if
@@ -123,12 +120,6 @@ module _ (p : Spot) (bytes : List ℕ) (w : Work) where
   acts-name a.NameMethod = search names-class
   acts-name a.ComputeMethod = search (names-operand, names-class)
   acts-name a.HoldParameter = search names-fails_if
-  acts-name a.BeginBody = refl
-  acts-name (a.HoldType ty.Nil) = refl
-  acts-name (a.HoldType ty.Bool) = refl
-  acts-name (a.HoldType ty.Int) = refl
-  acts-name (a.HoldType ty.Str) = refl
-  acts-name (a.HoldType ty.Any) = refl
   acts-name (a.HoldType (ty.Class c)) = tt
   acts-name a.HoldClassType = search names-known
   acts-name a.AddParameterType = search (names-type, names-fails_if)
@@ -150,25 +141,10 @@ module _ (p : Spot) (bytes : List ℕ) (w : Work) where
   acts-name a.PutCall = search (names-called, names-operand, names-complete)
   acts-name a.PutDef = search (names-closed, names-body, names-method, names-own, names-complete)
   acts-name (a.PutDeclare asks) = search (names-type, names-method, names-declaring, names-complete)
+  acts-name _ = refl
 
 -- ── how many ──
-
-named-few : (need : Option TokenKind) (bytes : List ℕ) (names : List (List ℕ)) → length (named need bytes names) ≤ length names + 1
-named-few None bytes names = omega arith
-named-few (Some k.Name) bytes names = with_word-length names bytes
-named-few (Some _) bytes names = omega arith
-
-named-same : (need : Option TokenKind) (bytes : List ℕ) (names : List (List ℕ)) → (need ≡ Some k.Name → ⊥) → named need bytes names ≡ names
-named-same None bytes names other = refl
-named-same (Some k.Name) bytes names other = absurd (other refl)
-named-same (Some _) bytes names other = refl
 
 module _ (done : Action) (p : Spot) (bytes : List ℕ) (w v : Work) (goes : act done p bytes w ≡ Goes v) where
   pub names-after : v.said.names ≡ named (needs done) bytes w.said.names
   names-after = subst (Names (named (needs done) bytes w.said.names)) goes (acts-name p bytes w done)
-
-  pub names-few : length v.said.names ≤ length w.said.names + 1
-  names-few = subst (λ names. length names ≤ length w.said.names + 1) (sym names-after) (named-few (needs done) bytes w.said.names)
-
-  pub names-same : (needs done ≡ Some k.Name → ⊥) → v.said.names ≡ w.said.names
-  names-same other = names-after ∙ named-same (needs done) bytes w.said.names other

@@ -154,11 +154,6 @@ own-fault answer new r fault is e =
     let h = err_from_is_err_and r is in
     rw h.1 (inl (e ∙ ap Fails (sym h.2)))
 
--- memory ran out
-pub no-memory : {X : Type 0} (answer : Answer) (new : Builder) (r : Result X ParseFail) → IsErrAnd r (λ y. y ≡ fail.NoMemory) → Answers answer r new
-no-memory answer new r is = let h = err_from_is_err_and r is in rw h.1 (inr h.2)
-
--- the last step of an action puts something on the pile
 pub put-answer : {A B : Type 0} (answer : Answer) (new : Builder) (r : Result (Unit {0}) ParseFail) → OnOk r A → OnOk r B → OnErr r (r ≡ Err fail.NoMemory)
     → (A → B → (answer ≡ Goes (work_of new)) × IsSound new) → Answers answer r new
 put-answer answer new (Ok done) a b memory go = go a b
@@ -196,9 +191,6 @@ module _ (b new : Builder) (draft : Unfinished) (below : List Held) (thing : Hel
 
   pub put-depth : new.depth ≡ depth
   put-depth = ap (λ (x : Builder). x.depth) rest
-
-  pub put-work : work_of new ≡ record { said = record (work_of b).said { places = (work_of b).said.places ++ place ∷ [] }; pile = pile_of new; depth = depth }
-  put-work = ap₂ (λ (x : Said) (d : ℕ). let w : Work = record { said = x; pile = pile_of new; depth = d } in w) put-said put-depth
 
 -- where no limit is passed, the action goes to what the builder then stands for
 pub node-goes : (b : Builder) (sound : IsSound b) (p : Spot) (make : ℕ → Tree) (slot : Tree → Slot) (pile : List Slot) (w : Work) (places : w.said.places ≡ (work_of b).said.places)

@@ -7,113 +7,41 @@ use Rattle.hb_build.specs.Pile.{piled, parameters_on, below_parameters, types_on
 use Rattle.hb_build.specs.Sound.{parameters_of, parameter_types_of}
 
 pub parameters-piled : (things : List Held) (hand : List Tree) → parameters_on (piled things hand) ≡ parameters_of things
-parameters-piled [] hand = refl
 parameters-piled (held.Operand ∷ things) [] = refl
-parameters-piled (held.Operand ∷ things) (e ∷ hand) = refl
 parameters-piled (held.Closed ∷ things) [] = refl
-parameters-piled (held.Closed ∷ things) (e ∷ hand) = refl
 parameters-piled (held.Item ∷ things) [] = refl
-parameters-piled (held.Item ∷ things) (e ∷ hand) = refl
 parameters-piled (held.Argument ∷ things) [] = refl
-parameters-piled (held.Argument ∷ things) (e ∷ hand) = refl
 parameters-piled (held.Computed c ∷ things) [] = refl
-parameters-piled (held.Computed c ∷ things) (e ∷ hand) = refl
-parameters-piled (held.Own p ∷ things) hand = refl
-parameters-piled (held.Declaring p ∷ things) hand = refl
-parameters-piled (held.Word x p ∷ things) hand = refl
-parameters-piled (held.Target x p ∷ things) hand = refl
-parameters-piled (held.Called x p ∷ things) hand = refl
-parameters-piled (held.Class c p ∷ things) hand = refl
-parameters-piled (held.Named c m ∷ things) hand = refl
 parameters-piled (held.Parameter x ∷ things) hand = ap (λ xs. xs ++ x.0 ∷ []) (parameters-piled things hand)
-parameters-piled (held.Type y ∷ things) hand = refl
-parameters-piled (held.ParameterType y ∷ things) hand = refl
-parameters-piled (held.Block ∷ things) hand = refl
-parameters-piled (held.Body ∷ things) hand = refl
-parameters-piled (held.Setup ∷ things) hand = refl
-parameters-piled (held.Script x ∷ things) hand = refl
+parameters-piled _ _ = refl
 
 pub types-piled : (things : List Held) (hand : List Tree) → types_on (piled things hand) ≡ parameter_types_of things
-types-piled [] hand = refl
 types-piled (held.Operand ∷ things) [] = refl
-types-piled (held.Operand ∷ things) (e ∷ hand) = refl
 types-piled (held.Closed ∷ things) [] = refl
-types-piled (held.Closed ∷ things) (e ∷ hand) = refl
 types-piled (held.Item ∷ things) [] = refl
-types-piled (held.Item ∷ things) (e ∷ hand) = refl
 types-piled (held.Argument ∷ things) [] = refl
-types-piled (held.Argument ∷ things) (e ∷ hand) = refl
 types-piled (held.Computed c ∷ things) [] = refl
-types-piled (held.Computed c ∷ things) (e ∷ hand) = refl
-types-piled (held.Own p ∷ things) hand = refl
-types-piled (held.Declaring p ∷ things) hand = refl
-types-piled (held.Word x p ∷ things) hand = refl
-types-piled (held.Target x p ∷ things) hand = refl
-types-piled (held.Called x p ∷ things) hand = refl
-types-piled (held.Class c p ∷ things) hand = refl
-types-piled (held.Named c m ∷ things) hand = refl
-types-piled (held.Parameter x ∷ things) hand = refl
-types-piled (held.Type y ∷ things) hand = refl
 types-piled (held.ParameterType y ∷ things) hand = ap (λ ys. ys ++ y ∷ []) (types-piled things hand)
-types-piled (held.Block ∷ things) hand = refl
-types-piled (held.Body ∷ things) hand = refl
-types-piled (held.Setup ∷ things) hand = refl
-types-piled (held.Script x ∷ things) hand = refl
+types-piled _ _ = refl
 
 pub below-parameters-piled : (things : List Held) (hand : List Tree) → below_parameters (piled things hand) ≡ piled (drop (length (parameters_of things)) things) hand
-below-parameters-piled [] hand = refl
 below-parameters-piled (held.Operand ∷ things) [] = refl
-below-parameters-piled (held.Operand ∷ things) (e ∷ hand) = refl
 below-parameters-piled (held.Closed ∷ things) [] = refl
-below-parameters-piled (held.Closed ∷ things) (e ∷ hand) = refl
 below-parameters-piled (held.Item ∷ things) [] = refl
-below-parameters-piled (held.Item ∷ things) (e ∷ hand) = refl
 below-parameters-piled (held.Argument ∷ things) [] = refl
-below-parameters-piled (held.Argument ∷ things) (e ∷ hand) = refl
 below-parameters-piled (held.Computed c ∷ things) [] = refl
-below-parameters-piled (held.Computed c ∷ things) (e ∷ hand) = refl
-below-parameters-piled (held.Own p ∷ things) hand = refl
-below-parameters-piled (held.Declaring p ∷ things) hand = refl
-below-parameters-piled (held.Word x p ∷ things) hand = refl
-below-parameters-piled (held.Target x p ∷ things) hand = refl
-below-parameters-piled (held.Called x p ∷ things) hand = refl
-below-parameters-piled (held.Class c p ∷ things) hand = refl
-below-parameters-piled (held.Named c m ∷ things) hand = refl
 below-parameters-piled (held.Parameter x ∷ things) hand =
     let e : length (parameters_of things ++ x.0 ∷ []) ≡ suc (length (parameters_of things)) = omega (arith, length-append (parameters_of things) (x.0 ∷ [])) in
     rw e (below-parameters-piled things hand)
-below-parameters-piled (held.Type y ∷ things) hand = refl
-below-parameters-piled (held.ParameterType y ∷ things) hand = refl
-below-parameters-piled (held.Block ∷ things) hand = refl
-below-parameters-piled (held.Body ∷ things) hand = refl
-below-parameters-piled (held.Setup ∷ things) hand = refl
-below-parameters-piled (held.Script x ∷ things) hand = refl
+below-parameters-piled _ _ = refl
 
 pub below-types-piled : (things : List Held) (hand : List Tree) → below_types (piled things hand) ≡ piled (drop (length (parameter_types_of things)) things) hand
-below-types-piled [] hand = refl
 below-types-piled (held.Operand ∷ things) [] = refl
-below-types-piled (held.Operand ∷ things) (e ∷ hand) = refl
 below-types-piled (held.Closed ∷ things) [] = refl
-below-types-piled (held.Closed ∷ things) (e ∷ hand) = refl
 below-types-piled (held.Item ∷ things) [] = refl
-below-types-piled (held.Item ∷ things) (e ∷ hand) = refl
 below-types-piled (held.Argument ∷ things) [] = refl
-below-types-piled (held.Argument ∷ things) (e ∷ hand) = refl
 below-types-piled (held.Computed c ∷ things) [] = refl
-below-types-piled (held.Computed c ∷ things) (e ∷ hand) = refl
-below-types-piled (held.Own p ∷ things) hand = refl
-below-types-piled (held.Declaring p ∷ things) hand = refl
-below-types-piled (held.Word x p ∷ things) hand = refl
-below-types-piled (held.Target x p ∷ things) hand = refl
-below-types-piled (held.Called x p ∷ things) hand = refl
-below-types-piled (held.Class c p ∷ things) hand = refl
-below-types-piled (held.Named c m ∷ things) hand = refl
-below-types-piled (held.Parameter x ∷ things) hand = refl
-below-types-piled (held.Type y ∷ things) hand = refl
 below-types-piled (held.ParameterType y ∷ things) hand =
     let e : length (parameter_types_of things ++ y ∷ []) ≡ suc (length (parameter_types_of things)) = omega (arith, length-append (parameter_types_of things) (y ∷ [])) in
     rw e (below-types-piled things hand)
-below-types-piled (held.Block ∷ things) hand = refl
-below-types-piled (held.Body ∷ things) hand = refl
-below-types-piled (held.Setup ∷ things) hand = refl
-below-types-piled (held.Script x ∷ things) hand = refl
+below-types-piled _ _ = refl

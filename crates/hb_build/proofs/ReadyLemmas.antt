@@ -90,9 +90,5 @@ empty : (pile : List Slot) → Stands [] pile → pile ≡ []
 empty [] h = refl
 empty (slot ∷ pile) h = absurd h
 
--- all that was held is used
-pub ready-end : (bytes : List ℕ) (read : ℕ) (w : Work) → Ready [] bytes read w → w.pile ≡ []
-ready-end bytes read w h = empty w.pile (subst (λ tags. Stands tags w.pile) h.fits h.stands)
-
 pub ready-names : (stack : List Symbol) (bytes : List ℕ) (read : ℕ) (w : Work) → Ready stack bytes read w → length w.said.names ≤ read
 ready-names stack bytes read w h = omega (arith, h.few_names)

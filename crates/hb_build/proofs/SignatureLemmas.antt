@@ -51,12 +51,8 @@ drop-filled zero (y ∷ types) few = absurd (omega arith)
 drop-filled (suc n) (y ∷ types) few = drop-filled n types (omega arith)
 
 is_ty-in : (t : Table) (y : Ty) → IsTy (length t.classes) y → IsTyIn t y
-is_ty-in t ty.Nil is = tt
-is_ty-in t ty.Bool is = tt
-is_ty-in t ty.Int is = tt
-is_ty-in t ty.Str is = tt
-is_ty-in t ty.Any is = tt
 is_ty-in t (ty.Class c) is = is
+is_ty-in _ _ _ = tt
 
 are_ty-in : (t : Table) (ys : List Ty) → AllByRecursion (IsTy (length t.classes)) ys → AllByRecursion (IsTyIn t) ys
 are_ty-in t [] are = tt
@@ -101,10 +97,6 @@ pub record IsSigned (old new : Builder) (y : Ty) (rest : List Held) : Type 0 whe
 module _ (old new : Builder) (y : Ty) (rest : List Held) (s : IsSigned old new y rest) (sound : IsSound old) where
   good : IsTy (length old.draft.table.classes) y × IsGood (length old.draft.table.names) (length old.draft.table.classes) (piled rest (in_hand old.draft))
   good = good-was old (held.Type y ∷ rest) (in_hand old.draft) s.was refl sound
-
-  pub pile-signed : pile_of new ≡ below_types (piled rest (in_hand old.draft))
-  pile-signed = ap (λ things. piled things (in_hand new.draft)) s.things ∙ ap (λ d. piled (drop (length (parameter_types_of rest)) rest) (in_hand d)) s.keeps.draft
-      ∙ sym (below-types-piled rest (in_hand old.draft))
 
   pub few-signed : length (parameter_types_of rest) ≤ PARAMS_MAX
   few-signed = omega (arith, types-few _ _ (piled rest (in_hand old.draft)) good.1, ap length (types-piled rest (in_hand old.draft)))

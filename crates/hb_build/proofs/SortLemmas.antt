@@ -88,36 +88,7 @@ do_lead sort (phrase ∷ more) = and_then (does_lead phrase (taken sort) (left_b
 -- the grammar's table
 table : (sort : Sort) → is_some (do_lead sort (alternatives sort)) ≡ true
 table g.Program = refl
-table g.Classes = refl
-table g.Scripts = refl
-table g.Block = refl
-table g.Items = refl
-table g.MoreItems = refl
-table g.Expression = refl
-table g.AfterName = refl
-table g.OtherUnary = refl
-table g.Method = refl
-table g.MethodName = refl
-table g.Signature = refl
-table g.Types = refl
-table g.MoreTypes = refl
-table g.TypeWord = refl
-table g.MoreComparison = refl
-table g.Sum = refl
-table g.MoreSum = refl
-table g.Product = refl
-table g.MoreProduct = refl
-table g.Unary = refl
-table g.Postfix = refl
-table g.MorePostfix = refl
-table g.Arguments = refl
-table g.ArgumentList = refl
-table g.MoreArguments = refl
-table g.Primary = refl
-table g.Value = refl
-table g.ElsePart = refl
-table g.Parameters = refl
-table g.MoreParameters = refl
+table _ = refl
 
 -- one of the phrases leads where each does
 one-leads : (sort : Sort) (phrases : List (List Symbol)) → AllLead sort phrases → (phrase : List Symbol) → IsOneOf phrases phrase → Leads phrase (taken sort) (left_by sort)

@@ -79,18 +79,14 @@ chosen small capital number literal =
 small-chosen : (a b c d : Bool) → chosen a b c d ≡ Some k.Name → a ≡ true
 unfolding chosen
 small-chosen true b c d h = refl
-small-chosen false true c d h = absurd (cc h)
-small-chosen false false true d h = absurd (cc h)
 small-chosen false false false true h = absurd (cc h)
-small-chosen false false false false h = absurd (cc h)
+small-chosen _ _ c d h = absurd (cc h)
 
 capital-chosen : (a b c d : Bool) → chosen a b c d ≡ Some k.ClassName → b ≡ true
 unfolding chosen
-capital-chosen true b c d h = absurd (cc h)
 capital-chosen false true c d h = refl
-capital-chosen false false true d h = absurd (cc h)
 capital-chosen false false false true h = absurd (cc h)
-capital-chosen false false false false h = absurd (cc h)
+capital-chosen _ b c d h = absurd (cc h)
 
 formed-name : (bytes : List ℕ) → formed bytes ≡ Some k.Name → is_word_token begins_name bytes ≡ true
 unfolding chosen

@@ -107,7 +107,9 @@ module _ (b : Builder) (sound : IsSound b) (op : ℕ → Tree → Tree) (is : Is
       let limits : IsWithin (1 + highest) (length b.draft.table.nodes) (is_over b.scope) = within (1 + highest) (length b.draft.table.nodes) (is_over b.scope) t.spot.at e in
       let put : IsPut b new (held.Operand ∷ t.rest) (op (length (work_of b).said.places) t.e ∷ t.others) =
       subst (λ (x : List Tree). IsPut b new (held.Operand ∷ t.rest) (unary_over op (length (work_of b).said.places) x)) t.hand_is before in
-      let sound-after : IsSound new = sound-put b new (held.Operand ∷ t.rest) (op (length (work_of b).said.places) t.e ∷ t.others) sound put (matched-after (length (work_of b).said.places)) (is.kind _ t.e, good_of.1) (more _) limits.few in (
-        answer-is ∙ node-goes b sound t.spot (λ id. op id t.e) Operand (piled t.rest t.others) w places highest (high_is _) (more _) e new (held.Operand ∷ t.rest) (op (length (work_of b).said.places) t.e ∷ t.others) put refl place place_is said depth,
+      let sound-after : IsSound new = sound-put b new (held.Operand ∷ t.rest) (op (length (work_of b).said.places) t.e ∷ t.others) sound put (matched-after (length (work_of b).said.places))
+           (is.kind _ t.e, good_of.1) (more _) limits.few in (
+        answer-is ∙ node-goes b sound t.spot (λ id. op id t.e) Operand (piled t.rest t.others) w places highest (high_is _) (more _) e new (held.Operand ∷ t.rest)
+            (op (length (work_of b).said.places) t.e ∷ t.others) put refl place place_is said depth,
         sound-after,
       )

@@ -23,12 +23,14 @@ pub record WhileTop (b : Builder) : Type 0 where
   pub things_are : things_of b ≡ held.Closed ∷ held.Operand ∷ held.Own spot ∷ rest
   pub hand_is : in_hand b.draft ≡ block ∷ cond ∷ others
 
-pub while-top : (b : Builder) (go : Tree → Tree → Spot → List Slot → Answer) → (with_closed (pile_of b) (λ block pile. with_operand pile (λ cond pile. with_own pile (λ q pile. go block cond q pile))) ≡ Lost → ⊥) → WhileTop b
+pub while-top : (b : Builder) (go : Tree → Tree → Spot → List Slot → Answer)
+    → (with_closed (pile_of b) (λ block pile. with_operand pile (λ cond pile. with_own pile (λ q pile. go block cond q pile))) ≡ Lost → ⊥) → WhileTop b
 while-top b go kept =
     let x0 = top-closed (things_of b) (in_hand b.draft) (λ block pile. with_operand pile (λ cond pile. with_own pile (λ q pile. go block cond q pile))) kept in
     let x1 = top-operand x0.0 x0.2 (λ cond pile. with_own pile (λ q pile. go x0.1 cond q pile)) x0.5 in
     let x2 = top-own x1.0 x1.2 (λ q pile. go x0.1 x1.1 q pile) x1.5 in
-    record { rest = x2.0; spot = x2.1; block = x0.1; cond = x1.1; others = x1.2; things_are = x0.3 ∙ ap (λ (x : List Held). held.Closed ∷ x) (x1.3 ∙ ap (λ (x : List Held). held.Operand ∷ x) (x2.2)); hand_is = x0.4 ∙ ap (λ (x : List Tree). x0.1 ∷ x) (x1.4) }
+    record { rest = x2.0; spot = x2.1; block = x0.1; cond = x1.1; others = x1.2;
+        things_are = x0.3 ∙ ap (λ (x : List Held). held.Closed ∷ x) (x1.3 ∙ ap (λ (x : List Held). held.Operand ∷ x) (x2.2)); hand_is = x0.4 ∙ ap (λ (x : List Tree). x0.1 ∷ x) (x1.4) }
 
 -- the same by what was taken off
 abbrev pub while-retop : (b : Builder) (t : WhileTop b) (rest : List Held) (spot : Spot) → held.Closed ∷ held.Operand ∷ held.Own t.spot ∷ t.rest ≡ held.Closed ∷ held.Operand ∷ held.Own spot ∷ rest → WhileTop b

@@ -16,7 +16,8 @@ use Rattle.hb_build.specs.declared.held.Held.TheVariants as held
 use Rattle.hb_build.specs.declared.builder.Builder.{Builder}
 use Rattle.hb_build.specs.declared.builder.Scope.{Scope}
 use Rattle.hb_build.specs.Said.{said_of}
-use Rattle.hb_build.specs.Pile.{Slot, Operand, Closed, Item, Argument, Word, Target, Called, OfClass, Named, Computed, Parameter, OfType, ParameterType, Body, Setup, Script, arguments_on, parameters_on, types_on, in_body, nodes_since, calls_since, names_since, declaring, piled}
+use Rattle.hb_build.specs.Pile.{Slot, Operand, Closed, Item, Argument, Word, Target, Called, OfClass, Named, Computed, Parameter, OfType, ParameterType, Body, Setup, Script}
+use Rattle.hb_build.specs.Pile.{arguments_on, parameters_on, types_on, in_body, nodes_since, calls_since, names_since, declaring, piled}
 use Rattle.hb_build.specs.Acts.{Work}
 
 -- what is not yet used, the last first

@@ -66,7 +66,8 @@ returns c =
     let rest = c.in_ok-begin_scope.ensures.rest in
     let scope = c.in_ok-begin_scope.ensures.scope in
     let is : IsMark (held.Script x) (Script x.0) = record { lies = λ things hand. refl; trees = λ things. refl; scopes = λ pile. refl; marks_are = λ pile. refl; pending = λ pile. refl } in
-    let begins : Begins named new = record { draft = ap (λ b. b.draft) rest; outer = c.in_ok-begin_scope.ensures.outer; declaring = ap (λ b. b.declaring) rest; scripts = ap (λ b. b.scripts) rest; depth = ap (λ b. b.depth) rest } in
+    let begins : Begins named new = record { draft = ap (λ b. b.draft) rest; outer = c.in_ok-begin_scope.ensures.outer; declaring = ap (λ b. b.declaring) rest; scripts = ap (λ b. b.scripts) rest;
+         depth = ap (λ b. b.depth) rest } in
     let things : things_of new ≡ held.Script x ∷ things_of named =
     things-over new.held.items begun.held.items (held.Script x) c.in_ok-push.ensures.items ∙ ap (λ (b : Builder). held.Script x ∷ things_of b) rest in
     let scope_counts : IsCount new.scope (Script x.0 ∷ pile_of named) =

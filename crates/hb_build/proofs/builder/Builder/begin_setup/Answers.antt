@@ -16,7 +16,8 @@ returns c =
     let rest = c.in_ok-begin_scope.ensures.rest in
     let scope = c.in_ok-begin_scope.ensures.scope in
     let is : IsMark held.Setup Setup = record { lies = λ things hand. refl; trees = λ things. refl; scopes = λ pile. refl; marks_are = λ pile. refl; pending = λ pile. refl } in
-    let begins : Begins old new = record { draft = ap (λ b. b.draft) rest; outer = c.in_ok-begin_scope.ensures.outer; declaring = ap (λ b. b.declaring) rest; scripts = ap (λ b. b.scripts) rest; depth = ap (λ b. b.depth) rest } in
+    let begins : Begins old new = record { draft = ap (λ b. b.draft) rest; outer = c.in_ok-begin_scope.ensures.outer; declaring = ap (λ b. b.declaring) rest; scripts = ap (λ b. b.scripts) rest;
+         depth = ap (λ b. b.depth) rest } in
     let things : things_of new ≡ held.Setup ∷ things_of old =
     things-over new.held.items begun.held.items held.Setup c.in_ok-push.ensures.items ∙ ap (λ (b : Builder). held.Setup ∷ things_of b) rest in
     let count : IsCount new.scope (Setup ∷ pile_of old) =

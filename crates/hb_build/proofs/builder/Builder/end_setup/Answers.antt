@@ -64,5 +64,6 @@ returns c =
       ap (λ pile. with_closed pile (λ b pile. with_setup pile (go (work_of old) b))) (pile-ended old new held.Setup Setup adds.block is-setup ends)
           ∙ ap Goes (ap₂ work (sym said) (sym (ap (λ b. b.depth) rest))),
       sound-ended old new held.Setup Setup adds.block is-setup ends c.requires.fits.0 good.1
-          (ap (λ b. Rattle.hb_build.specs.Sound.numbers b.scripts.items) rest ∙ c.requires.fits.0.named ∙ ap (Rattle.std.proofs.Common.map (λ s. s.0)) (sym (ap (λ (d : Unfinished). scripts_in d.table) draft ∙ adds.script_trees))),
+          (ap (λ b. Rattle.hb_build.specs.Sound.numbers b.scripts.items) rest ∙ c.requires.fits.0.named
+              ∙ ap (Rattle.std.proofs.Common.map (λ s. s.0)) (sym (ap (λ (d : Unfinished). scripts_in d.table) draft ∙ adds.script_trees))),
     )

@@ -32,7 +32,8 @@ returns c =
     let light : IsLight thing slot = light-called x c.args.spot in
     let keeps : KeepsRest named new = record { draft = ap (λ b. b.draft) is; outer = ap (λ b. b.outer) is; declaring = ap (λ b. b.declaring) is; scripts = ap (λ b. b.scripts) is } in
     let known : x.0 < length c.name.new.self.table.names = slice_get_within _ _ _ c.in_ok-name.ensures.number in
-    let count : IsCount new.scope (slot ∷ pile_of named) = subst (λ s. IsCount s (slot ∷ pile_of named)) (sym (ap (λ b. b.scope) is)) (count-called named.scope (pile_of named) x.0 c.args.spot sound.counts.0 c.in_ok-calls.ensures.0) in
+    let count : IsCount new.scope (slot ∷ pile_of named) = subst (λ s. IsCount s (slot ∷ pile_of named)) (sym (ap (λ b. b.scope) is))
+         (count-called named.scope (pile_of named) x.0 c.args.spot sound.counts.0 c.in_ok-calls.ensures.0) in
     let done : IsSound new = sound-over named new thing slot keeps items light sound (known, sound.good) count in
     let over : work_of new ≡ push slot (work_of named) = work-over named new thing slot keeps items light (ap (λ b. b.depth) is) in
     let call = λ (n : ℕ). push (Called n c.args.spot) (numbered c.args.bytes.now (work_of old)) in

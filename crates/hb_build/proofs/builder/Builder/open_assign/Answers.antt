@@ -44,7 +44,8 @@ returns-in_err-assigns c =
     let keeps : KeepsRest old taken = record { draft = refl; outer = refl; declaring = refl; scripts = refl } in
     let x = c.take_word.result.0 in
     let does = act-assign old taken c.args.spot c.take_word.result.1 x keeps c.take_word.ensures c.in_ok-opens.ensures in
-    let sound = sound-under old taken (held.Word x c.take_word.result.1) (Word x.0 c.take_word.result.1) keeps c.take_word.ensures (light-word x c.take_word.result.1) c.requires.fits.0 (λ g. g.1) (count-under old.scope (Word x.0 c.take_word.result.1) (pile_of taken) (quiet-word x.0 c.take_word.result.1)) in
+    let sound = sound-under old taken (held.Word x c.take_word.result.1) (Word x.0 c.take_word.result.1) keeps c.take_word.ensures (light-word x c.take_word.result.1) c.requires.fits.0 (λ g. g.1)
+         (count-under old.scope (Word x.0 c.take_word.result.1) (pile_of taken) (quiet-word x.0 c.take_word.result.1)) in
     answers-fault _ _ _ _ c.from_residual-in_err-assigns.ensures (elim c.in_err-assigns.ensures.result [
       | inl many ↦ inl (does ∙ cond-true _ _ _ (many-assigned old.scope (pile_of taken) x c.args.spot sound.counts.0 many.1) ∙ ap Fails (sym many.0))
       | inr none ↦ inr none
@@ -67,7 +68,8 @@ returns c =
     let stays : KeepsRest taken new = record { draft = ap (λ b. b.draft) is.0; outer = ap (λ b. b.outer) is.0; declaring = ap (λ b. b.declaring) is.0; scripts = ap (λ b. b.scripts) is.0 } in
     let items : new.held.items ≡ taken.held.items ++ thing ∷ [] = c.in_ok-push.ensures.items ∙ ap (λ b. b.held.items ++ thing ∷ []) is.0 in
     let count : IsCount new.scope (slot ∷ pile_of taken) = count-assigned taken.scope new.scope (pile_of taken) x c.args.spot sound.counts.0 (ap (λ b. b.scope) is.0) is.1 in
-    let known = (subst (IsGood (length old.draft.table.names) (length old.draft.table.classes)) (pile-under old taken (held.Word x c.take_word.result.1) (Word x.0 c.take_word.result.1) keeps c.take_word.ensures (light-word x c.take_word.result.1)) c.requires.fits.0.good).0 in
+    let known = (subst (IsGood (length old.draft.table.names) (length old.draft.table.classes))
+         (pile-under old taken (held.Word x c.take_word.result.1) (Word x.0 c.take_word.result.1) keeps c.take_word.ensures (light-word x c.take_word.result.1)) c.requires.fits.0.good).0 in
     let done : IsSound new = sound-over taken new thing slot stays items (light-target x c.args.spot) sound (known, sound.good) count in
     let before : Builder = record assigned { held = c.push.new.self } in
     let keeping : KeepsRest taken before = record { draft = stays.draft; outer = stays.outer; declaring = stays.declaring; scripts = stays.scripts } in

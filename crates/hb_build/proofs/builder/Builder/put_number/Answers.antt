@@ -35,15 +35,18 @@ returns-in_err-completes c =
     let b = c.args.self.now in
     own-fault _ _ _ _ c.from_residual-in_err-completes.ensures.1
     (leaf-room c.args.spot (make (value_of_number c.args.bytes.now)) (work_of b) c.in_ok-begins.ensures
-    ∙ leaf-fails b c.requires.fits.0 (make (value_of_number c.args.bytes.now)) (is (value_of_number c.args.bytes.now)) (things_of b) (below-all b c.requires.fits.0) c.args.spot (work_of b) refl c.in_err-completes.field-0.0 c.in_err-completes.ensures)
+    ∙ leaf-fails b c.requires.fits.0 (make (value_of_number c.args.bytes.now)) (is (value_of_number c.args.bytes.now)) (things_of b) (below-all b c.requires.fits.0) c.args.spot
+        (work_of b) refl c.in_err-completes.field-0.0 c.in_err-completes.ensures)
 
 pub returns : goal.returns
 returns c = put-answer _ _ c.put.result c.put.ensures.held c.put.ensures.rest c.put.ensures.memory (λ held_is others.
     let b = c.args.self.now in
     let fits : SFits w64 c.number_value.result = search rules in
-    let made = subst (λ v. made_of c.int.new.self ≡ with_node (made_of b.draft) c.place.result (leaf_over (λ id. TInt id v))) (to_z-of_z w64 c.number_value.result fits ∙ c.number_value.ensures) c.in_ok-int.ensures.made in
+    let made = subst (λ v. made_of c.int.new.self ≡ with_node (made_of b.draft) c.place.result (leaf_over (λ id. TInt id v)))
+         (to_z-of_z w64 c.number_value.result fits ∙ c.number_value.ensures) c.in_ok-int.ensures.made in
     let same = c.in_ok-int.ensures.put.table.types in
-    let end = leaf-goes b c.requires.fits.0 (make (value_of_number c.args.bytes.now)) (is (value_of_number c.args.bytes.now)) (things_of b) (below-all b c.requires.fits.0) c.args.spot (work_of b) refl c.in_ok-completes.ensures c.put.new.self
+    let end = leaf-goes b c.requires.fits.0 (make (value_of_number c.args.bytes.now)) (is (value_of_number c.args.bytes.now)) (things_of b) (below-all b c.requires.fits.0) c.args.spot
+         (work_of b) refl c.in_ok-completes.ensures c.put.new.self
     (is-put b c.put.new.self c.int.new.self b.held.items held.Operand _ others held_is c.place.result (leaf_over (make (value_of_number c.args.bytes.now))) made same)
     c.place.result c.place.ensures
     (put-said b c.put.new.self c.int.new.self b.held.items held.Operand _ others held_is c.place.result (leaf_over (make (value_of_number c.args.bytes.now))) made same)

@@ -32,7 +32,8 @@ returns-in_err-completes c =
     let t = unary-top c.args.self.now (λ e q pile. complete q (λ id. TPrint id e) Operand pile (closed (work_of c.args.self.now))) c.requires.fits.1 in
     let u = retop c.args.self.now t _ _ _ (c.drop_top.ensures held.Operand (held.Own t.spot ∷ t.rest) t.things_are) c.take_own-spot.ensures in
     own-fault _ _ _ _ c.from_residual.ensures.1
-    (unary-fails c.args.self.now c.requires.fits.0 TPrint is u (closed (work_of c.args.self.now)) refl c.height.result (first-height _ _ _ _ u.hand_is c.height.ensures) c.in_err-completes.field-0.0 c.in_err-completes.ensures)
+    (unary-fails c.args.self.now c.requires.fits.0 TPrint is u (closed (work_of c.args.self.now)) refl c.height.result
+        (first-height _ _ _ _ u.hand_is c.height.ensures) c.in_err-completes.field-0.0 c.in_err-completes.ensures)
 
 pub print-requires-clause-parts : goal.print-requires-clause-parts
 print-requires-clause-parts c =
