@@ -21,7 +21,8 @@ use Rattle.hb_draft.proofs.WordLists.{with_word-begins, with_word-place}
 use Rattle.hb_grammar.specs.declared.actions.Action.TheVariants as a
 use Rattle.hb_build.specs.declared.held.Spot.{Spot}
 use Rattle.hb_build.specs.Said.{Said}
-use Rattle.hb_build.specs.Pile.{Slot, Operand, Closed, Item, Argument, Own, Declaring, Word, Target, Called, OfClass, Named, Computed, Parameter, OfType, ParameterType, Block, Body, Setup, Script, items_on, below_items, arguments_on, below_arguments, parameters_on, types_on, is_full, declaring}
+use Rattle.hb_build.specs.Pile.{Slot, Operand, Closed, Item, Argument, Own, Declaring, Word, Target, Called, OfClass, Named, Computed, Parameter, OfType, ParameterType, Block}
+use Rattle.hb_build.specs.Pile.{Body, Setup, Script, items_on, below_items, arguments_on, below_arguments, parameters_on, types_on, is_full, declaring}
 use Rattle.hb_build.specs.Acts.{Work, Goes, complete, closed, push, numbered, number, with_known, class_of, begins, if_word, with_block, with_called, with_operand, boolean}
 use Rattle.hb_canonical.specs.Deeds.{Deed}
 use Rattle.hb_canonical.proofs.EffectLemmas.{Later, Inside, Moves, Does, begins-same, later-then, inside-same, inside-then, word-later, goes-same, goes-passed, moves-to, puts, at-pile}
@@ -248,7 +249,8 @@ module _ (w : Work) (ds : List Deed) (v : Work) (es : List Deed) where
   pub does-put_str : (e : Tree) (q : Spot) (pile : List Slot) → w.pile ≡ Operand e ∷ Own q ∷ pile → Does a.PutStr w ds v es → Lays (Operand (TToStr (length w.said.places) e) ∷ pile)
   does-put_str e q pile is d = puts q (λ id. TToStr id e) Operand pile w v (at-pile a.PutStr d.spot d.bytes w v (Operand e ∷ Own q ∷ pile) is d.goes)
 
-  pub does-put_binary : (op : Op) (r : Tree) (q : Spot) (l : Tree) (pile : List Slot) → w.pile ≡ Operand r ∷ Own q ∷ Operand l ∷ pile → Does (a.PutBinary op) w ds v es → Lays (Operand (TBinary (length w.said.places) op l r) ∷ pile)
+  pub does-put_binary : (op : Op) (r : Tree) (q : Spot) (l : Tree) (pile : List Slot) → w.pile ≡ Operand r ∷ Own q ∷ Operand l ∷ pile → Does (a.PutBinary op) w ds v es
+      → Lays (Operand (TBinary (length w.said.places) op l r) ∷ pile)
   does-put_binary op r q l pile is d = puts q (λ id. TBinary id op l r) Operand pile w v (at-pile (a.PutBinary op) d.spot d.bytes w v (Operand r ∷ Own q ∷ Operand l ∷ pile) is d.goes)
 
   pub does-put_if : (r l c : Tree) (q : Spot) (pile : List Slot) → w.pile ≡ Closed r ∷ Closed l ∷ Operand c ∷ Own q ∷ pile → Does a.PutIf w ds v es → Shuts (Operand (TIf (length w.said.places) c l r) ∷ pile)

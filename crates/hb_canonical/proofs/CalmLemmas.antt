@@ -94,11 +94,7 @@ module _ (s : Said) where
 
   type-is-none : (y : Ty) → is_open (type_deed s y).action ≡ false
   type-is-none (ty.Class c) = refl
-  type-is-none ty.Nil = refl
-  type-is-none ty.Bool = refl
-  type-is-none ty.Int = refl
-  type-is-none ty.Str = refl
-  type-is-none ty.Any = refl
+  type-is-none _ = refl
 
   types-calm : (ys : List Ty) → Calm (flat_map (λ p. type_deed s p ∷ plain a.AddParameterType ∷ []) ys)
   types-calm [] = none false
@@ -242,10 +238,8 @@ module _ (s : Said) where
           (begins-wrapped 5 (part r.0) (own s (part r.0)) ((stands r.0).first (ok.nodes id (node.Call r m args) e).exprs.0))
       node-begins id (node.Block first count) e h = absurd h
       node-begins id (node.Def (method.Named c m) site) e h = λ ds. refl
-      node-begins id (node.Def (method.Computed c v) site) e h = λ ds. refl
       node-begins id (node.Declare (method.Named c m) site asks) e h = λ ds. refl
-      node-begins id (node.Declare (method.Computed c v) site asks) e h = λ ds. refl
-      node-begins id _ e h = λ ds. refl
+      node-begins _ _ _ _ = λ ds. refl
 
     down-stands : (depth id : ℕ) → Stands (tree_down t depth id) (node_at t id)
     unfolding tree_down

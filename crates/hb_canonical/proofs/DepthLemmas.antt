@@ -9,13 +9,15 @@ use Rattle.hb_types.specs.declared.types.Ty.{Ty}
 use Rattle.hb_types.specs.declared.types.Ty.TheVariants as ty
 use Rattle.hb_types.specs.declared.types.MethodTy.{MethodTy}
 use Rattle.hb_types.specs.Types.{params_of as param_types_of}
-use Rattle.hb_tree.specs.Tree.{Tree, TNil, TTrue, TFalse, TSelf, TInt, TText, TVar, TNew, TAssign, TPrint, TToStr, TNot, TBinary, TIf, TWhile, TCall, TDef, TDefComputed, TDeclare, TDeclareComputed, TBlock, Forest, NoTree, Trees}
+use Rattle.hb_tree.specs.Tree.{Tree, TNil, TTrue, TFalse, TSelf, TInt, TText, TVar, TNew, TAssign, TPrint, TToStr, TNot, TBinary, TIf, TWhile, TCall, TDef, TDefComputed}
+use Rattle.hb_tree.specs.Tree.{TDeclare, TDeclareComputed, TBlock, Forest, NoTree, Trees}
 use Rattle.hb_tree.specs.Canon.{bytes_at, quoted, level, least_left, least_right}
 use Rattle.hb_draft.specs.Made.{Given}
 use Rattle.hb_grammar.specs.declared.actions.Action.{Action}
 use Rattle.hb_grammar.specs.declared.actions.Action.TheVariants as a
 use Rattle.hb_build.specs.Said.{Said}
-use Rattle.hb_canonical.specs.Deeds.{Deed, deed, plain, name, class, type_deed, signature_of, parameters_of, boolean, wrap, named, computed, arguments, own, each, class_deeds, setup_deeds, script_deeds, deeds_of, depth_after, deepest}
+use Rattle.hb_canonical.specs.Deeds.{Deed, deed, plain, name, class, type_deed, signature_of, parameters_of, boolean, wrap, named, computed, arguments, own, each, class_deeds}
+use Rattle.hb_canonical.specs.Deeds.{setup_deeds, script_deeds, deeds_of, depth_after, deepest}
 use Rattle.hb_canonical.proofs.ConstructLemmas.{constructs, constructs_all, shielded, enclosed}
 
 max-le : (a b m : ℕ) → a ≤ m → b ≤ m → max a b ≤ m
@@ -67,11 +69,7 @@ module _ (m : ℕ) where
 
   type-stays : (s : Said) (y : Ty) → Stays (type_deed s y).action
   type-stays s (ty.Class c) d = refl
-  type-stays s ty.Nil d = refl
-  type-stays s ty.Bool d = refl
-  type-stays s ty.Int d = refl
-  type-stays s ty.Str d = refl
-  type-stays s ty.Any d = refl
+  type-stays _ _ _ = refl
 
   types-shallow : (s : Said) (ys : List Ty) (n : ℕ) → Shallow (flat_map (λ p. type_deed s p ∷ plain a.AddParameterType ∷ []) ys) n
   types-shallow s [] n = none n
@@ -175,7 +173,8 @@ module _ (m : ℕ) where
     own-shallow s (TWhile id c b) =
         let n : ℕ = max (constructs c) (constructs b) in
         construct (plain a.OpenWord) (plain a.PutWhile) (own s c ++ own s b) [] n (1 + n) (λ d. refl) (λ d. omega arith) (omega arith)
-        (append (own s c) (own s b) n (fewer (own s c) (constructs c) n (max-left (constructs c) (constructs b)) (own-shallow s c)) (fewer (own s b) (constructs b) n (max-right (constructs c) (constructs b)) (own-shallow s b)))
+        (append (own s c) (own s b) n (fewer (own s c) (constructs c) n (max-left (constructs c) (constructs b)) (own-shallow s c))
+            (fewer (own s b) (constructs b) n (max-right (constructs c) (constructs b)) (own-shallow s b)))
         (none (1 + n))
     own-shallow s (TCall id r i args) =
         let n : ℕ = shielded 5 r (constructs r) in
@@ -185,14 +184,16 @@ module _ (m : ℕ) where
         append (wrap 5 r (own s r)) (name s a.HoldCall i ∷ (given ++ last)) (max n o)
         (fewer (wrap 5 r (own s r)) n (max n o) (max-left n o) (wrap-shallow 5 r (own s r) (constructs r) (own-shallow s r)))
         (cons (name s a.HoldCall i) (given ++ last) (max n o) (λ d. refl)
-        (append given last (max n o) (fewer given o (max n o) (max-right n o) (arguments-shallow args (each s a.AddArgument args) (constructs_all args) (each-shallow s a.AddArgument args (λ d. refl)))) (single (plain a.PutCall) (max n o) (λ d. refl))))
+        (append given last (max n o) (fewer given o (max n o) (max-right n o)
+            (arguments-shallow args (each s a.AddArgument args) (constructs_all args) (each-shallow s a.AddArgument args (λ d. refl)))) (single (plain a.PutCall) (max n o) (λ d. refl))))
     own-shallow s (TDef id c i site b) =
         let n : ℕ = max 1 (constructs b) in
         definition-shallow s (named s c i) site b n (max-left 1 (constructs b)) (named-shallow s c i n) (fewer (own s b) (constructs b) n (max-right 1 (constructs b)) (own-shallow s b))
     own-shallow s (TDefComputed id c e site b) =
         let n : ℕ = max (1 + constructs e) (constructs b) in
         let left = max-left (1 + constructs e) (constructs b) in
-        definition-shallow s (computed s c (own s e)) site b n (omega arith) (computed-shallow s c (own s e) (constructs e) n left (own-shallow s e)) (fewer (own s b) (constructs b) n (max-right (1 + constructs e) (constructs b)) (own-shallow s b))
+        definition-shallow s (computed s c (own s e)) site b n (omega arith) (computed-shallow s c (own s e) (constructs e) n left (own-shallow s e))
+            (fewer (own s b) (constructs b) n (max-right (1 + constructs e) (constructs b)) (own-shallow s b))
     own-shallow s (TDeclare id c i site asks) = declaration-shallow s (named s c i) site asks 1 (omega arith) (named-shallow s c i 1)
     own-shallow s (TDeclareComputed id c e site asks) =
         let n : ℕ = 1 + constructs e in
@@ -229,7 +230,8 @@ module _ (m : ℕ) where
   setup-start s None h = λ ds k. k
   setup-start s (Some b) h =
       start (setup_deeds s (Some b)) (constructs b) h
-      (cons (plain a.BeginSetup) (own s b ++ plain a.EndSetup ∷ []) (constructs b) (λ d. refl) (append (own s b) (plain a.EndSetup ∷ []) (constructs b) (own-shallow s b) (single (plain a.EndSetup) (constructs b) (λ d. refl))))
+      (cons (plain a.BeginSetup) (own s b ++ plain a.EndSetup ∷ []) (constructs b) (λ d. refl)
+          (append (own s b) (plain a.EndSetup ∷ []) (constructs b) (own-shallow s b) (single (plain a.EndSetup) (constructs b) (λ d. refl))))
 
   scripts-start : (s : Said) (scripts : List (ℕ × Tree)) → AllByRecursion (λ script. 0 + constructs script.1 ≤ m) scripts → AtStart (flat_map (script_deeds s) scripts)
   scripts-start s [] h = λ ds k. k

@@ -163,10 +163,7 @@ operated o es = plain a.HoldOperator ∷ (es ++ plain (a.PutBinary o) ∷ [])
 more_comparison : (o : Op) (qs : List Piece) (es : List Deed) → op_level o ≡ 1 → AsSum qs es → Leads g.MoreComparison (operator o qs) (operated o es) []
 more_comparison op.Less qs es e r = record { on = λ h. choose g.MoreComparison 0 refl (token (action refl (join es (plain (a.PutBinary op.Less) ∷ []) _ (r.inner.on (choose g.MoreSum 3 refl (action refl h)))))) }
 more_comparison op.Equal qs es e r = record { on = λ h. choose g.MoreComparison 1 refl (token (action refl (join es (plain (a.PutBinary op.Equal) ∷ []) _ (r.inner.on (choose g.MoreSum 3 refl (action refl h)))))) }
-more_comparison op.Add qs es e r = cc
-more_comparison op.Sub qs es e r = cc
-more_comparison op.Mul qs es e r = cc
-more_comparison op.Concat qs es e r = cc
+more_comparison _ qs es e r = cc
 
 compared : (o : Op) (ps qs : List Piece) (ds es : List Deed) → op_level o ≡ 1 → AsSum ps ds → AsSum qs es → AsExpression (ps ++ operator o qs) (ds ++ operated o es)
 compared o ps qs ds es e l r = record { on = λ h. split ps (operator o qs) _ (join ds (operated o es) _ (l.front.on (choose g.MoreSum 3 refl ((more_comparison o qs es e r).on h)))) }
@@ -175,9 +172,7 @@ more_sum : (o : Op) (qs : List Piece) (es : List Deed) → op_level o ≡ 2 → 
 more_sum op.Add qs es e r = record { on = λ h. choose g.MoreSum 0 refl (token (action refl (join es (plain (a.PutBinary op.Add) ∷ []) _ (r.inner.on (choose g.MoreProduct 1 refl (action refl h)))))) }
 more_sum op.Sub qs es e r = record { on = λ h. choose g.MoreSum 1 refl (token (action refl (join es (plain (a.PutBinary op.Sub) ∷ []) _ (r.inner.on (choose g.MoreProduct 1 refl (action refl h)))))) }
 more_sum op.Concat qs es e r = record { on = λ h. choose g.MoreSum 2 refl (token (action refl (join es (plain (a.PutBinary op.Concat) ∷ []) _ (r.inner.on (choose g.MoreProduct 1 refl (action refl h)))))) }
-more_sum op.Mul qs es e r = cc
-more_sum op.Less qs es e r = cc
-more_sum op.Equal qs es e r = cc
+more_sum _ qs es e r = cc
 
 summed : (o : Op) (ps qs : List Piece) (ds es : List Deed) → op_level o ≡ 2 → AsSum ps ds → AsProduct qs es → AsSum (ps ++ operator o qs) (ds ++ operated o es)
 summed o ps qs ds es e l r = record {

@@ -236,9 +236,6 @@ tail_none : (x y b : ℕ) (bs : List ℕ) (c : ℕ) (more : List ℕ) → x ∷ 
 tail_none x y b [] c more e = (cc e, cc e)
 tail_none x y b (z ∷ zs) c more e = absurd (omega (arith, ap length e, length-append zs (c ∷ more)))
 
-one_none : (x b : ℕ) (bs : List ℕ) (c : ℕ) (more : List ℕ) → x ∷ [] ≡ b ∷ (bs ++ c ∷ more) → ⊥
-one_none x b bs c more e = omega (arith, ap length e, length-append bs (c ∷ more))
-
 begins_with : (kind : TokenKind) (x b : ℕ) (bs : List ℕ) → spelling kind ≡ b ∷ bs → x ∷ [] ≡ b ∷ bs → bytes_eq (spelling kind) (x ∷ []) ≡ true
 begins_with kind x b bs e is = (bytes_eq-Decides (spelling kind) (x ∷ [])).1 (e ∙ sym is)
 
@@ -246,7 +243,8 @@ begins_with kind x b bs e is = (bytes_eq-Decides (spelling kind) (x ∷ [])).1 (
 abbrev has_mark_shape : List ℕ → Bool
 has_mark_shape bytes = not (is_mark_byte (first bytes)) || nat_lt (length bytes) 2 || bytes_eq (codes "==") bytes || bytes_eq (codes "++") bytes || bytes_eq (codes "->") bytes
 
-mark_ends : (kind other : TokenKind) (b : ℕ) (bs : List ℕ) (c : ℕ) (more : List ℕ) → is_mark_byte b ≡ true → spelling kind ≡ b ∷ bs → stops_at kind c ≡ true → spelling other ≡ b ∷ (bs ++ c ∷ more) → has_mark_shape (spelling other) ≡ true → ⊥
+mark_ends : (kind other : TokenKind) (b : ℕ) (bs : List ℕ) (c : ℕ) (more : List ℕ) → is_mark_byte b ≡ true → spelling kind ≡ b ∷ bs → stops_at kind c ≡ true
+    → spelling other ≡ b ∷ (bs ++ c ∷ more) → has_mark_shape (spelling other) ≡ true → ⊥
 mark_ends kind other b bs c more m e h is shaped =
     let bytes : List ℕ = b ∷ (bs ++ c ∷ more) in
     elim (or_cases (not (is_mark_byte b) || nat_lt (length bytes) 2 || bytes_eq (codes "==") bytes || bytes_eq (codes "++") bytes) _ (ap has_mark_shape (sym is) ∙ shaped)) [

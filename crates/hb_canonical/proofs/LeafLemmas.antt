@@ -96,7 +96,8 @@ closes_escape b more value h c = elim (cases_Bool (nat_eq b 34)) [
     | inr s ↦ elim (cases_Bool (nat_eq b 10)) [
       | inl n ↦ escapes (codes "\\n") 10 (cond-false (nat_eq b 34) _ _ q ∙ cond-false (nat_eq b 92) _ _ s ∙ cond-true (nat_eq b 10) _ _ n) (sym (eqb-true b 10 n)) (c.0, ap (λ v. 10 ∷ v) c.1)
       | inr n ↦ elim (cases_Bool (nat_eq b 9)) [
-        | inl t ↦ escapes (codes "\\t") 9 (cond-false (nat_eq b 34) _ _ q ∙ cond-false (nat_eq b 92) _ _ s ∙ cond-false (nat_eq b 10) _ _ n ∙ cond-true (nat_eq b 9) _ _ t) (sym (eqb-true b 9 t)) (c.0, ap (λ v. 9 ∷ v) c.1)
+        | inl t ↦ escapes (codes "\\t") 9 (cond-false (nat_eq b 34) _ _ q ∙ cond-false (nat_eq b 92) _ _ s ∙ cond-false (nat_eq b 10) _ _ n ∙ cond-true (nat_eq b 9) _ _ t) (sym (eqb-true b 9 t))
+            (c.0, ap (λ v. 9 ∷ v) c.1)
         | inr t ↦
             let same : escape b ≡ b ∷ [] = cond-false (nat_eq b 34) _ _ q ∙ cond-false (nat_eq b 92) _ _ s ∙ cond-false (nat_eq b 10) _ _ n ∙ cond-false (nat_eq b 9) _ _ t in
             let P = λ (e : List ℕ). Closes (e ++ more) (b ∷ value) in

@@ -18,10 +18,14 @@ use Rattle.hb_grammar.specs.declared.actions.Action.TheVariants as a
 use Rattle.hb_build.specs.declared.held.Spot.{Spot}
 use Rattle.hb_build.specs.declared.faults.ParseFail.TheVariants as fail
 use Rattle.hb_build.specs.declared.faults.Limit.TheVariants as limit
-use Rattle.hb_build.specs.Pile.{Slot, Operand, Closed, Item, Argument, Own, Declaring, Word, Target, Called, OfClass, Named, Computed, Parameter, OfType, ParameterType, Block, Body, Setup, Script, items_on, below_items, arguments_on, below_arguments, parameters_on, below_parameters, types_on, below_types, is_full}
-use Rattle.hb_build.specs.Acts.{Work, Answer, Goes, act, begins, boolean, class_of, closed, complete, declare, define, giving, leaf, method_ty, number, numbered, opened, push, typing, with_block, with_called, with_operand}
+use Rattle.hb_build.specs.Pile.{Slot, Operand, Closed, Item, Argument, Own, Declaring, Word, Target, Called, OfClass, Named, Computed, Parameter, OfType, ParameterType, Block}
+use Rattle.hb_build.specs.Pile.{Body, Setup, Script, items_on, below_items, arguments_on, below_arguments, parameters_on, below_parameters, types_on, below_types, is_full}
+use Rattle.hb_build.specs.Acts.{Work, Answer, Goes, act, begins, boolean, class_of, closed, complete, declare, define, giving, leaf, method_ty, number, numbered, opened, push}
+use Rattle.hb_build.specs.Acts.{typing, with_block, with_called, with_operand}
 use Rattle.hb_canonical.specs.Deeds.{depth_after}
-use Rattle.hb_canonical.proofs.SeenLemmas.{nowhere, no_place, no_spots, unplaced, unplaced-twice, seen, Alike, both, kept, fails, completes, seen-items, seen-below_items, seen-arguments, seen-below_arguments, seen-parameters, seen-below_parameters, seen-types, seen-below_types, seen-full, seen-declaring, seen-many_calls, seen-many_variables}
+use Rattle.hb_canonical.proofs.SeenLemmas.{nowhere, no_place, no_spots, unplaced, unplaced-twice, seen, Alike, both, kept, fails, completes, seen-items, seen-below_items}
+use Rattle.hb_canonical.proofs.SeenLemmas.{seen-arguments, seen-below_arguments, seen-parameters, seen-below_parameters, seen-types, seen-below_types, seen-full}
+use Rattle.hb_canonical.proofs.SeenLemmas.{seen-declaring, seen-many_calls, seen-many_variables}
 use Rattle.hb_canonical.proofs.SeenLemmas as on
 
 -- where a construct opens there is room for it

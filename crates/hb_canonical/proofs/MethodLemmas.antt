@@ -22,7 +22,8 @@ use Rattle.hb_canonical.specs.Deeds.{Deed, deed, plain, name, class, type_deed}
 use Rattle.hb_canonical.proofs.PlainLemmas.{plainly, plain_names, plain_types, plain_parameters, plain_signature}
 use Rattle.hb_canonical.proofs.ConstructLemmas.{constructs, shielded, max-fits, shielded-least}
 use Rattle.hb_canonical.proofs.EffectLemmas.{Later, Inside, Moves, Does, begins-same, inside-then, later-then, still, next, anew, puts, at-pile}
-use Rattle.hb_canonical.proofs.ActionLemmas.{does-open, does-close, does-open_word, does-hold_declare, does-hold_class, does-hold_class_type, does-hold_type, does-hold_parameter, does-name_method, does-compute_method, does-begin_body, does-add_parameter_type}
+use Rattle.hb_canonical.proofs.ActionLemmas.{does-open, does-close, does-open_word, does-hold_declare, does-hold_class, does-hold_class_type, does-hold_type}
+use Rattle.hb_canonical.proofs.ActionLemmas.{does-hold_parameter, does-name_method, does-compute_method, does-begin_body, does-add_parameter_type}
 use Rattle.hb_canonical.proofs.PhraseLemmas.{Head, Plain, Computes, slot_of, head_deeds, head_constructs, ParametersMore, TypesMore, Way}
 use Rattle.hb_canonical.proofs.BlockLemmas.{block_ends}
 

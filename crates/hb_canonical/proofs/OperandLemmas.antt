@@ -19,7 +19,9 @@ use Rattle.hb_canonical.specs.Deeds.{Deed, deed, plain, name, class}
 use Rattle.hb_canonical.proofs.PlainLemmas.{plainly, plain_each}
 use Rattle.hb_canonical.proofs.ConstructLemmas.{constructs, constructs_all, shielded, enclosed, max-fits, shielded-least, shielded-most, shielded-more}
 use Rattle.hb_canonical.proofs.EffectLemmas.{Moves, Does, later-then, still, next, anew}
-use Rattle.hb_canonical.proofs.ActionLemmas.{does-open, does-close, does-open_word, does-open_assign, does-hold_operator, does-hold_str, does-hold_name, does-hold_call, does-hold_class, does-put_nil, does-put_boolean, does-put_self, does-put_number, does-put_text, does-put_variable, does-put_new, does-put_assign, does-put_print, does-put_not, does-put_str, does-put_binary, does-put_call}
+use Rattle.hb_canonical.proofs.ActionLemmas.{does-open, does-close, does-open_word, does-open_assign, does-hold_operator, does-hold_str, does-hold_name, does-hold_call}
+use Rattle.hb_canonical.proofs.ActionLemmas.{does-hold_class, does-put_nil, does-put_boolean, does-put_self, does-put_number, does-put_text, does-put_variable, does-put_new}
+use Rattle.hb_canonical.proofs.ActionLemmas.{does-put_assign, does-put_print, does-put_not, does-put_str, does-put_binary, does-put_call}
 use Rattle.hb_canonical.proofs.PhraseLemmas.{Results, Pushes, Extends, Follows, ArgumentsWhole, Way}
 
 -- ── results that go on ──
@@ -55,11 +57,7 @@ weaken l b h r = record {
 
 level-alone : (o : Op) (id : ℕ) (l r : Tree) (n : ℕ) → shielded (op_level o) (TBinary id o l r) n ≡ n
 level-alone op.Add id l r n = refl
-level-alone op.Sub id l r n = refl
-level-alone op.Mul id l r n = refl
-level-alone op.Concat id l r n = refl
-level-alone op.Less id l r n = refl
-level-alone op.Equal id l r n = refl
+level-alone _ _ _ _ _ = refl
 
 operated : (o : Op) (w : Work) (ds : List Deed) (v1 : Work) (e1 : List Deed) (v2 : Work) (e2 : List Deed) (v3 : Work) (e3 : List Deed)
     → Does a.HoldOperator w ds v1 e1 → Pushes (least_right o) v1 e1 v2 e2 → Does (a.PutBinary o) v2 e2 v3 e3 → Extends (least_left o) (op_level o) w ds v3 e3
@@ -357,7 +355,8 @@ module _ (w : Work) (ds : List Deed) (on : Work → List Deed → Type 0) where
   called (v1, e1, d1, (v2, e2, given, (v3, e3, d3, (v4, e4, x, k)))) =
       (v4, e4, λ r pile is. extend 5 5 5 (omega arith) (call v1 e1 d1 v2 e2 given v3 e3 d3 r pile is) x, k)
     where
-      call : (v1 : Work) (e1 : List Deed) (d1 : Does a.HoldCall w ds v1 e1) (v2 : Work) (e2 : List Deed) (given : ArgumentsWhole v1 e1 v2 e2) (v3 : Work) (e3 : List Deed) (d3 : Does a.PutCall v2 e2 v3 e3) → Extends 5 5 w ds v3 e3
+      call : (v1 : Work) (e1 : List Deed) (d1 : Does a.HoldCall w ds v1 e1) (v2 : Work) (e2 : List Deed) (given : ArgumentsWhole v1 e1 v2 e2) (v3 : Work) (e3 : List Deed)
+          (d3 : Does a.PutCall v2 e2 v3 e3) → Extends 5 5 w ds v3 e3
       call v1 e1 d1 v2 e2 given v3 e3 d3 r pile is =
           let h = does-hold_call w ds v1 e1 d1 in
           let m1 : Moves w.said v1 (Called h.0 d1.spot ∷ w.pile) w.depth = h.1 in

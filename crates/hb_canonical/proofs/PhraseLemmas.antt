@@ -206,16 +206,14 @@ Through g.MoreSum = Extends 2 2
 Through g.Product = Pushes 3
 Through g.MoreProduct = Extends 3 3
 Through g.Unary = Pushes 4
-Through g.Postfix = Pushes 5
 Through g.MorePostfix = Extends 5 5
 Through g.Arguments = ArgumentsWhole
 Through g.ArgumentList = ArgumentsMore
 Through g.MoreArguments = ArgumentsMore
-Through g.Primary = Pushes 5
-Through g.Value = Pushes 5
 Through g.ElsePart = λ w ds v es. (pile : List Slot) → below_items w.pile ≡ Block ∷ pile → Elses pile w ds v es
 Through g.Parameters = ParametersMore
 Through g.MoreParameters = ParametersMore
+Through _ = Pushes 5
 
 -- the symbols lead from this work, with these deeds ahead, to where `on` holds
 abbrev pub Way : List Symbol → Work → List Deed → (Work → List Deed → Type 0) → Type 0

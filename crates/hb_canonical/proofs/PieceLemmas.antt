@@ -23,7 +23,8 @@ use Rattle.hb_tree.specs.Nodes.{args_of, items_of, node_at, params_of, block_in}
 use Rattle.hb_tree.specs.TreeAt.{forest_at, tree_of, tree_of_place, tree_down}
 use Rattle.hb_tree.specs.Program.{IsProgram, IsExprNode, IsTyIn, IsMethodTyIn}
 use Rattle.hb_tree.specs.Pieces.{Piece, mark, joined_paren}
-use Rattle.hb_tree.specs.Canon.{own, each, wrap, least_left, least_right, op_kind, level, arguments, otherwise, separated, named, computed, parameters, parameters_of, signature, signature_of, declares, name_piece, class_piece, type_piece, bytes_at}
+use Rattle.hb_tree.specs.Canon.{own, each, wrap, least_left, least_right, op_kind, level, arguments, otherwise, separated, named, computed, parameters, parameters_of}
+use Rattle.hb_tree.specs.Canon.{signature, signature_of, declares, name_piece, class_piece, type_piece, bytes_at}
 use Rattle.hb_tree.specs.Spelling.{IsName, IsClassName, IsText}
 use Rattle.hb_tree.proofs.Lists.{each_append, each_at, past_none}
 use Rattle.hb_canonical.proofs.LeafLemmas.{name_token, class_token, text_token, number_token}
@@ -120,11 +121,7 @@ module _ (t : Table) (ok : IsProgram t) where
 
   type_ends : (y : Ty) → Ends (type_piece t y ∷ [])
   type_ends ty.Nil before = refl
-  type_ends ty.Bool before = refl
-  type_ends ty.Int before = refl
-  type_ends ty.Str before = refl
-  type_ends ty.Any before = refl
-  type_ends (ty.Class c) before = refl
+  type_ends _ _ = refl
 
   words_plain : {X : Type 0} (P : X → Type 0) (f : X → Piece) (xs : List X) → ((x : X) → P x → IsPlain (f x)) → AllByRecursion P xs → AllPlain (map (λ x. f x ∷ []) xs)
   words_plain P f [] g h = tt
@@ -167,7 +164,8 @@ module _ (t : Table) (ok : IsProgram t) where
           ends_nil (q ∷ qs) before g = ends_nil qs (Some q.kind) g
   signature_ends ps (Some m) h =
       let pss : List (List Piece) = map (λ y. type_piece t y ∷ []) (param_types_of m) in
-      ends_append ps (signature_of t (Some m)) (ends_append (mark k.Colon ∷ mark k.OpenParen ∷ separated (mark k.Comma) pss) (mark k.CloseParen ∷ mark k.Arrow ∷ type_piece t m.result ∷ []) (λ before. type_ends m.result (Some k.Arrow)))
+      ends_append ps (signature_of t (Some m)) (ends_append (mark k.Colon ∷ mark k.OpenParen ∷ separated (mark k.Comma) pss) (mark k.CloseParen ∷ mark k.Arrow ∷ type_piece t m.result ∷ [])
+          (λ before. type_ends m.result (Some k.Arrow)))
 
   named_plain : (c m : ℕ) → c < length t.classes → m < length t.names → ArePlain (named t c m)
   named_plain c m p q = (class_plain c p, (plain_mark k.Dot (omega arith), (name_plain m q, tt)))
@@ -256,14 +254,6 @@ module _ (t : Table) (ok : IsProgram t) where
 
   module _ (part : ℕ → Tree) (ends : (j : ℕ) → IsExprNode (node_at t j) → Ends (own t (part j))) where
     node_ends : (id : ℕ) (n : Node) → node_at t id ≡ Some n → IsExprNode (Some n) → Ends (own t (tree_of t part id n))
-    node_ends id node.Nil e h before = refl
-    node_ends id node.True e h before = refl
-    node_ends id node.False e h before = refl
-    node_ends id node.SelfRef e h before = refl
-    node_ends id (node.Int n) e h before = refl
-    node_ends id (node.Text x) e h before = refl
-    node_ends id (node.Var x) e h before = refl
-    node_ends id (node.New c) e h before = refl
     node_ends id (node.Assign x v) e h before = ends v.0 (ok.nodes id (node.Assign x v) e).exprs.0 (Some k.Assign)
     node_ends id (node.Print v) e h before = ends v.0 (ok.nodes id (node.Print v) e).exprs.0 (Some k.KwPrint)
     node_ends id (node.ToStr v) e h before = ends_append (mark k.KwStr ∷ joined_paren ∷ own t (part v.0)) (mark k.CloseParen ∷ []) (λ b. refl) before
@@ -285,6 +275,7 @@ module _ (t : Table) (ok : IsProgram t) where
     node_ends id (node.Declare (method.Computed c v) s q) e h before =
         signature_ends (mark (declares q) ∷ computed t c.0 (own t (part v.0))) (option_map (λ y. y.0) (slice_get t.types s.0)) (λ b. computed_ends c.0 (own t (part v.0)) (Some (declares q))) before
     node_ends id (node.Block first count) e h before = absurd h
+    node_ends _ _ _ _ _ = refl
 
   -- a line feed behind an expression separates
   pub down_ends : (depth id : ℕ) → IsExprNode (node_at t id) → Ends (own t (tree_down t depth id))

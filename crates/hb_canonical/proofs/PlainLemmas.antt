@@ -7,7 +7,8 @@ use Rattle.hb_types.specs.declared.types.Ty.{Ty}
 use Rattle.hb_types.specs.declared.types.Ty.TheVariants as ty
 use Rattle.hb_types.specs.declared.types.MethodTy.{MethodTy}
 use Rattle.hb_types.specs.Types.{params_of as param_types_of}
-use Rattle.hb_tree.specs.Tree.{Tree, TNil, TTrue, TFalse, TSelf, TInt, TText, TVar, TNew, TAssign, TPrint, TToStr, TNot, TBinary, TIf, TWhile, TCall, TDef, TDefComputed, TDeclare, TDeclareComputed, TBlock, Forest, NoTree, Trees}
+use Rattle.hb_tree.specs.Tree.{Tree, TNil, TTrue, TFalse, TSelf, TInt, TText, TVar, TNew, TAssign, TPrint, TToStr, TNot, TBinary, TIf, TWhile, TCall, TDef, TDefComputed}
+use Rattle.hb_tree.specs.Tree.{TDeclare, TDeclareComputed, TBlock, Forest, NoTree, Trees}
 use Rattle.hb_tree.specs.Canon.{bytes_at, quoted, level, least_left, least_right}
 use Rattle.hb_draft.specs.Made.{Given}
 use Rattle.hb_grammar.specs.declared.actions.Action.{Action}
@@ -105,11 +106,7 @@ bare_names s (x ∷ xs) ds = ap (λ r. name s a.HoldParameter x ∷ r) (bare_nam
 
 pub bare_type : (s : Said) (y : Ty) (ds : List Deed) → bare (type_deed s y ∷ ds) ≡ type_deed s y ∷ bare ds
 bare_type s (ty.Class c) ds = refl
-bare_type s ty.Nil ds = refl
-bare_type s ty.Bool ds = refl
-bare_type s ty.Int ds = refl
-bare_type s ty.Str ds = refl
-bare_type s ty.Any ds = refl
+bare_type _ _ _ = refl
 
 bare_types : (s : Said) (ys : List Ty) (ds : List Deed) → bare (flat_map (λ p. type_deed s p ∷ plain a.AddParameterType ∷ []) ys ++ ds) ≡ plain_types s ys (bare ds)
 bare_types s [] ds = refl
@@ -139,14 +136,6 @@ bare_body s b h ds = ap (λ rest. plain a.BeginBody ∷ rest) (first (own s b) (
 
 mutual
   pub bare_own : (s : Said) (e : Tree) (ds : List Deed) → bare (own s e ++ ds) ≡ plainly s e (bare ds)
-  bare_own s (TNil id) ds = refl
-  bare_own s (TTrue id) ds = refl
-  bare_own s (TFalse id) ds = refl
-  bare_own s (TSelf id) ds = refl
-  bare_own s (TInt id n) ds = refl
-  bare_own s (TText id x) ds = refl
-  bare_own s (TVar id x) ds = refl
-  bare_own s (TNew id c) ds = refl
   bare_own s (TAssign id x e) ds =
       ap (λ r. name s a.HoldName x ∷ plain a.OpenAssign ∷ r) (first (own s e) (plain a.PutAssign ∷ []) (plainly s e) (bare_own s e) ds (plain a.PutAssign ∷ bare ds) refl)
   bare_own s (TPrint id e) ds =
@@ -191,7 +180,8 @@ mutual
       (bare_body s b (bare_own s b)) ds)
   bare_own s (TDeclare id c m site asks) ds =
       ap (λ rest. plain a.HoldDeclare ∷ class s a.HoldClass c ∷ name s a.NameMethod m ∷ rest)
-      (first (signature_of s (slice_get s.types site)) (plain (a.PutDeclare asks) ∷ []) (plain_signature s (slice_get s.types site)) (bare_signature s (slice_get s.types site)) ds (plain (a.PutDeclare asks) ∷ bare ds) refl)
+      (first (signature_of s (slice_get s.types site)) (plain (a.PutDeclare asks) ∷ []) (plain_signature s (slice_get s.types site)) (bare_signature s (slice_get s.types site)) ds
+          (plain (a.PutDeclare asks) ∷ bare ds) refl)
   bare_own s (TDeclareComputed id c e site asks) ds =
       let end : List Deed = plain a.Close ∷ plain a.ComputeMethod ∷ [] in
       let type : List Deed = signature_of s (slice_get s.types site) in
@@ -203,6 +193,7 @@ mutual
       (λ rest. refl) ds)
   bare_own s (TBlock id es) ds =
       ap (λ rest. plain a.BeginBlock ∷ rest) (first (each s a.AddItem es) (plain a.EndBlock ∷ []) (plain_each s a.AddItem es) (bare_each s a.AddItem es (λ rest. refl)) ds (plain a.EndBlock ∷ bare ds) refl)
+  bare_own _ _ _ = refl
 
   pub bare_each : (s : Said) (joins : Action) (es : Forest) → ((ds : List Deed) → bare (plain joins ∷ ds) ≡ plain joins ∷ bare ds) → (ds : List Deed) → bare (each s joins es ++ ds) ≡ plain_each s joins es (bare ds)
   bare_each s joins NoTree h ds = refl

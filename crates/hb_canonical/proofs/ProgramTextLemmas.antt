@@ -27,7 +27,8 @@ use Rattle.hb_tree.specs.Nodes.{args_of, items_of, node_at, numbers_of, params_o
 use Rattle.hb_tree.specs.TreeAt.{forest_at, tree_at, tree_of, tree_of_place, tree_down}
 use Rattle.hb_tree.specs.Program.{IsProgram, IsBlockNode, IsExprNode, IsRootIn, IsScriptIn}
 use Rattle.hb_tree.specs.Pieces.{Piece, mark, line_end}
-use Rattle.hb_tree.specs.Canon.{own, each, level, arguments, otherwise, separated, named, computed, parameters, parameters_of, signature, signature_of, declares, name_piece, type_piece, bytes_at, quoted, line, lines_of, class_line, setup_lines, script_lines, pieces_of, canon}
+use Rattle.hb_tree.specs.Canon.{own, each, level, arguments, otherwise, separated, named, computed, parameters, parameters_of, signature, signature_of, declares, name_piece}
+use Rattle.hb_tree.specs.Canon.{type_piece, bytes_at, quoted, line, lines_of, class_line, setup_lines, script_lines, pieces_of, canon}
 use Rattle.hb_draft.specs.Made.{Given, given_by, type_of}
 use Rattle.hb_grammar.specs.declared.symbols.Sort.TheVariants as g
 use Rattle.hb_grammar.specs.declared.symbols.Symbol.{Symbol}

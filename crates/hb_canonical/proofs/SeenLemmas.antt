@@ -12,8 +12,11 @@ use Rattle.hb_build.specs.declared.faults.ParseFail.{ParseFail}
 use Rattle.hb_build.specs.declared.faults.ParseFail.TheVariants as fail
 use Rattle.hb_build.specs.declared.faults.Limit.TheVariants as limit
 use Rattle.hb_build.specs.Said.{Said}
-use Rattle.hb_build.specs.Pile.{Slot, Operand, Closed, Item, Argument, Own, Declaring, Word, Target, Called, OfClass, Named, Computed, Parameter, OfType, ParameterType, Block, Body, Setup, Script, items_on, below_items, arguments_on, below_arguments, parameters_on, below_parameters, types_on, below_types, is_full, in_body, nodes_since, calls_since, names_since, declaring, has_too_many_nodes, has_too_many_calls, has_too_many_variables}
-use Rattle.hb_build.specs.Acts.{Work, Answer, Goes, Fails, Lost, complete, passed, unless, fails_if, if_word, with_known, with_operand, with_closed, with_own, with_declaring, with_name, with_target, with_called, with_class, with_type, with_block, with_body, with_setup, with_script, with_method}
+use Rattle.hb_build.specs.Pile.{Slot, Operand, Closed, Item, Argument, Own, Declaring, Word, Target, Called, OfClass, Named, Computed, Parameter, OfType, ParameterType, Block}
+use Rattle.hb_build.specs.Pile.{Body, Setup, Script, items_on, below_items, arguments_on, below_arguments, parameters_on, below_parameters, types_on, below_types, is_full}
+use Rattle.hb_build.specs.Pile.{in_body, nodes_since, calls_since, names_since, declaring, has_too_many_nodes, has_too_many_calls, has_too_many_variables}
+use Rattle.hb_build.specs.Acts.{Work, Answer, Goes, Fails, Lost, complete, passed, unless, fails_if, if_word, with_known, with_operand, with_closed, with_own, with_declaring}
+use Rattle.hb_build.specs.Acts.{with_name, with_target, with_called, with_class, with_type, with_block, with_body, with_setup, with_script, with_method}
 
 -- ── without places and spots ──
 
@@ -67,11 +70,6 @@ places-twice (p ∷ places) = ap (λ l. (0, 0) ∷ l) (places-twice places)
 
 pub unplaced-twice : (s : Said) → unplaced (unplaced s) ≡ unplaced s
 unplaced-twice s = ap (λ l. record s { places = l }) (places-twice s.places)
-
-pub seen-twice : (d e : ℕ) (w : Work) → seen d (seen e w) ≡ seen d w
-seen-twice d e w = ap (λ (s : Said). record { said = s; pile = no_spots (no_spots w.pile); depth = d }) (unplaced-twice w.said) ∙ ap (λ (l : List Slot). record { said = unplaced w.said; pile = l; depth = d }) (spots-twice w.pile)
-
--- ── what is asked of a pile looks at no spots ──
 
 pub seen-items : (pile : List Slot) → items_on (no_spots pile) ≡ items_on pile
 seen-items (Item e ∷ pile) = ap (λ l. l ++ e ∷ []) (seen-items pile)
@@ -198,10 +196,8 @@ module _ (d : ℕ) where
   passes : (a b c : Bool) (at to : ℕ) (x y : Answer) → Alike x y
       → Alike (unless (if a then Some (fail.TooDeep at) else if b then Some (fail.TooMany limit.Nodes at) else if c then Some (fail.TooMany limit.Body at) else None) x)
       (unless (if a then Some (fail.TooDeep to) else if b then Some (fail.TooMany limit.Nodes to) else if c then Some (fail.TooMany limit.Body to) else None) y)
-  passes true b c at to x y h = record { same = refl }
-  passes false true c at to x y h = record { same = refl }
-  passes false false true at to x y h = record { same = refl }
   passes false false false at to x y h = h
+  passes _ _ _ _ _ _ _ _ = record { same = refl }
 
   grown : (s : Said) (p : ℕ × ℕ) → unplaced (record s { places = s.places ++ p ∷ [] }) ≡ record s { places = map no_place s.places ++ (0, 0) ∷ [] }
   grown s p = ap (λ l. record s { places = l }) (map-append no_place s.places (p ∷ []))
@@ -235,39 +231,48 @@ module _ (d : ℕ) where
 
   -- ── what lies on top ──
 
-  pub operand : (pile : List Slot) {f : Tree → List Slot → Answer} (g : Tree → List Slot → Answer) → ((e : Tree) (rest : List Slot) → Alike (f e rest) (g e (no_spots rest))) → Alike (with_operand pile f) (with_operand (no_spots pile) g)
+  pub operand : (pile : List Slot) {f : Tree → List Slot → Answer} (g : Tree → List Slot → Answer) → ((e : Tree) (rest : List Slot) → Alike (f e rest) (g e (no_spots rest)))
+      → Alike (with_operand pile f) (with_operand (no_spots pile) g)
   operand (Operand e ∷ rest) g h = h e rest
   operand _ g h = record { same = refl }
 
-  pub block_closed : (pile : List Slot) {f : Tree → List Slot → Answer} (g : Tree → List Slot → Answer) → ((e : Tree) (rest : List Slot) → Alike (f e rest) (g e (no_spots rest))) → Alike (with_closed pile f) (with_closed (no_spots pile) g)
+  pub block_closed : (pile : List Slot) {f : Tree → List Slot → Answer} (g : Tree → List Slot → Answer) → ((e : Tree) (rest : List Slot) → Alike (f e rest) (g e (no_spots rest)))
+      → Alike (with_closed pile f) (with_closed (no_spots pile) g)
   block_closed (Closed e ∷ rest) g h = h e rest
   block_closed _ g h = record { same = refl }
 
-  pub own : (pile : List Slot) {f : Spot → List Slot → Answer} (g : Spot → List Slot → Answer) → ((p : Spot) (rest : List Slot) → Alike (f p rest) (g nowhere (no_spots rest))) → Alike (with_own pile f) (with_own (no_spots pile) g)
+  pub own : (pile : List Slot) {f : Spot → List Slot → Answer} (g : Spot → List Slot → Answer) → ((p : Spot) (rest : List Slot) → Alike (f p rest) (g nowhere (no_spots rest)))
+      → Alike (with_own pile f) (with_own (no_spots pile) g)
   own (Own p ∷ rest) g h = h p rest
   own _ g h = record { same = refl }
 
-  pub declares : (pile : List Slot) {f : Spot → List Slot → Answer} (g : Spot → List Slot → Answer) → ((p : Spot) (rest : List Slot) → Alike (f p rest) (g nowhere (no_spots rest))) → Alike (with_declaring pile f) (with_declaring (no_spots pile) g)
+  pub declares : (pile : List Slot) {f : Spot → List Slot → Answer} (g : Spot → List Slot → Answer) → ((p : Spot) (rest : List Slot) → Alike (f p rest) (g nowhere (no_spots rest)))
+      → Alike (with_declaring pile f) (with_declaring (no_spots pile) g)
   declares (Declaring p ∷ rest) g h = h p rest
   declares _ g h = record { same = refl }
 
-  pub named : (pile : List Slot) {f : ℕ → Spot → List Slot → Answer} (g : ℕ → Spot → List Slot → Answer) → ((x : ℕ) (p : Spot) (rest : List Slot) → Alike (f x p rest) (g x nowhere (no_spots rest))) → Alike (with_name pile f) (with_name (no_spots pile) g)
+  pub named : (pile : List Slot) {f : ℕ → Spot → List Slot → Answer} (g : ℕ → Spot → List Slot → Answer)
+      → ((x : ℕ) (p : Spot) (rest : List Slot) → Alike (f x p rest) (g x nowhere (no_spots rest))) → Alike (with_name pile f) (with_name (no_spots pile) g)
   named (Word x p ∷ rest) g h = h x p rest
   named _ g h = record { same = refl }
 
-  pub target : (pile : List Slot) {f : ℕ → Spot → List Slot → Answer} (g : ℕ → Spot → List Slot → Answer) → ((x : ℕ) (p : Spot) (rest : List Slot) → Alike (f x p rest) (g x nowhere (no_spots rest))) → Alike (with_target pile f) (with_target (no_spots pile) g)
+  pub target : (pile : List Slot) {f : ℕ → Spot → List Slot → Answer} (g : ℕ → Spot → List Slot → Answer)
+      → ((x : ℕ) (p : Spot) (rest : List Slot) → Alike (f x p rest) (g x nowhere (no_spots rest))) → Alike (with_target pile f) (with_target (no_spots pile) g)
   target (Target x p ∷ rest) g h = h x p rest
   target _ g h = record { same = refl }
 
-  pub called : (pile : List Slot) {f : ℕ → Spot → List Slot → Answer} (g : ℕ → Spot → List Slot → Answer) → ((x : ℕ) (p : Spot) (rest : List Slot) → Alike (f x p rest) (g x nowhere (no_spots rest))) → Alike (with_called pile f) (with_called (no_spots pile) g)
+  pub called : (pile : List Slot) {f : ℕ → Spot → List Slot → Answer} (g : ℕ → Spot → List Slot → Answer)
+      → ((x : ℕ) (p : Spot) (rest : List Slot) → Alike (f x p rest) (g x nowhere (no_spots rest))) → Alike (with_called pile f) (with_called (no_spots pile) g)
   called (Called x p ∷ rest) g h = h x p rest
   called _ g h = record { same = refl }
 
-  pub of_class : (pile : List Slot) {f : ℕ → Spot → List Slot → Answer} (g : ℕ → Spot → List Slot → Answer) → ((x : ℕ) (p : Spot) (rest : List Slot) → Alike (f x p rest) (g x nowhere (no_spots rest))) → Alike (with_class pile f) (with_class (no_spots pile) g)
+  pub of_class : (pile : List Slot) {f : ℕ → Spot → List Slot → Answer} (g : ℕ → Spot → List Slot → Answer)
+      → ((x : ℕ) (p : Spot) (rest : List Slot) → Alike (f x p rest) (g x nowhere (no_spots rest))) → Alike (with_class pile f) (with_class (no_spots pile) g)
   of_class (OfClass x p ∷ rest) g h = h x p rest
   of_class _ g h = record { same = refl }
 
-  pub of_type : (pile : List Slot) {f : Ty → List Slot → Answer} (g : Ty → List Slot → Answer) → ((y : Ty) (rest : List Slot) → Alike (f y rest) (g y (no_spots rest))) → Alike (with_type pile f) (with_type (no_spots pile) g)
+  pub of_type : (pile : List Slot) {f : Ty → List Slot → Answer} (g : Ty → List Slot → Answer) → ((y : Ty) (rest : List Slot) → Alike (f y rest) (g y (no_spots rest)))
+      → Alike (with_type pile f) (with_type (no_spots pile) g)
   of_type (OfType y ∷ rest) g h = h y rest
   of_type _ g h = record { same = refl }
 
@@ -283,7 +288,8 @@ module _ (d : ℕ) where
   setup (Setup ∷ rest) g h = h rest
   setup _ g h = record { same = refl }
 
-  pub script : (pile : List Slot) {f : ℕ → List Slot → Answer} (g : ℕ → List Slot → Answer) → ((x : ℕ) (rest : List Slot) → Alike (f x rest) (g x (no_spots rest))) → Alike (with_script pile f) (with_script (no_spots pile) g)
+  pub script : (pile : List Slot) {f : ℕ → List Slot → Answer} (g : ℕ → List Slot → Answer) → ((x : ℕ) (rest : List Slot) → Alike (f x rest) (g x (no_spots rest)))
+      → Alike (with_script pile f) (with_script (no_spots pile) g)
   script (Script x ∷ rest) g h = h x rest
   script _ g h = record { same = refl }
 
@@ -302,8 +308,4 @@ module _ (d : ℕ) where
 
   pub word : (y : Ty) {x z : Answer} → Alike x z → Alike (if_word y x) (if_word y z)
   word (ty.Class c) h = record { same = refl }
-  word ty.Nil h = h
-  word ty.Bool h = h
-  word ty.Int h = h
-  word ty.Str h = h
-  word ty.Any h = h
+  word _ h = h

@@ -51,7 +51,8 @@ module _ (w : Work) (ds : List Deed) (on : Work → List Deed → Type 0) where
   all-serve g.MoreTypes = (method.one_type w ds on, (method.no_type w ds on, tt))
   all-serve g.TypeWord = (
     method.class_type w ds on,
-    (method.word_type w ds on ty.Bool (λ s. refl), (method.word_type w ds on ty.Int (λ s. refl), (method.word_type w ds on ty.Str (λ s. refl), (method.word_type w ds on ty.Any (λ s. refl), (method.word_type w ds on ty.Nil (λ s. refl), tt))))),
+    (method.word_type w ds on ty.Bool (λ s. refl), (method.word_type w ds on ty.Int (λ s. refl),
+        (method.word_type w ds on ty.Str (λ s. refl), (method.word_type w ds on ty.Any (λ s. refl), (method.word_type w ds on ty.Nil (λ s. refl), tt))))),
   )
   all-serve g.MoreComparison = (operand.less w ds on, (operand.equal w ds on, (operand.alone w ds on 2 0 (omega arith), tt)))
   all-serve g.Sum = (operand.sum w ds on, tt)

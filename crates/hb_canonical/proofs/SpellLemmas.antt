@@ -48,7 +48,8 @@ on_false false P Q h q = q
 on_false true P Q h q = absurd (both_ways true h refl)
 
 -- with a token in front
-with_token : (whole : List ℕ) (at n : ℕ) (before : Option TokenKind) (text rest : List ℕ) (p : Piece) (ps : List Piece) → text ≡ drop at whole → take n text ≡ p.bytes → (r : Reads whole (at + n) (Some p.kind) rest ps) → Lexes (suc r.steps) at before text (Ok (token_at p.kind at n ∷ r.tokens)) → Reads whole at before text (p ∷ ps)
+with_token : (whole : List ℕ) (at n : ℕ) (before : Option TokenKind) (text rest : List ℕ) (p : Piece) (ps : List Piece) → text ≡ drop at whole → take n text ≡ p.bytes
+    → (r : Reads whole (at + n) (Some p.kind) rest ps) → Lexes (suc r.steps) at before text (Ok (token_at p.kind at n ∷ r.tokens)) → Reads whole at before text (p ∷ ps)
 with_token whole at n before text rest p ps e bytes r lexes =
     let len : at + n - at ≡ n = omega arith in
     let here : bytes_of whole (token_at p.kind at n) ≡ p.bytes = ap (λ m. take m (drop at whole)) len ∙ ap (take n) (sym e) ∙ bytes in
@@ -64,7 +65,8 @@ behind : (whole : List ℕ) (at m : ℕ) (text : List ℕ) → text ≡ drop at 
 behind whole at m text e = ap (drop m) e ∙ drop-drop m at whole
 
 -- a space in front
-with_space : (b : Bool) (whole : List ℕ) (at : ℕ) (before : Option TokenKind) (front rest : List ℕ) (ps : List Piece) → ((if b then 32 ∷ [] else []) ++ front) ++ rest ≡ drop at whole → ((here : ℕ) → front ++ rest ≡ drop here whole → Reads whole here before (front ++ rest) ps) → Reads whole at before (((if b then 32 ∷ [] else []) ++ front) ++ rest) ps
+with_space : (b : Bool) (whole : List ℕ) (at : ℕ) (before : Option TokenKind) (front rest : List ℕ) (ps : List Piece) → ((if b then 32 ∷ [] else []) ++ front) ++ rest ≡ drop at whole
+    → ((here : ℕ) → front ++ rest ≡ drop here whole → Reads whole here before (front ++ rest) ps) → Reads whole at before (((if b then 32 ∷ [] else []) ++ front) ++ rest) ps
 with_space false whole at before front rest ps e f = f at e
 with_space true whole at before front rest ps e f =
     let r : Reads whole (at + 1) before (front ++ rest) ps = f (at + 1) (behind whole at 1 (32 ∷ (front ++ rest)) e) in
@@ -72,7 +74,8 @@ with_space true whole at before front rest ps e f =
 
 -- a token of its kind in front
 module _ (whole : List ℕ) (at : ℕ) (before : Option TokenKind) (p : Piece) (ps : List Piece) (rest : List ℕ) where
-  token_front : (b : ℕ) (bs : List ℕ) → p.bytes ≡ b ∷ bs → IsToken p → stops p.kind rest ≡ true → b ∷ (bs ++ rest) ≡ drop at whole → (r : Reads whole (at + length (b ∷ bs)) (Some p.kind) rest ps) → Reads whole at before (b ∷ (bs ++ rest)) (p ∷ ps)
+  token_front : (b : ℕ) (bs : List ℕ) → p.bytes ≡ b ∷ bs → IsToken p → stops p.kind rest ≡ true → b ∷ (bs ++ rest) ≡ drop at whole → (r : Reads whole (at + length (b ∷ bs)) (Some p.kind) rest ps)
+      → Reads whole at before (b ∷ (bs ++ rest)) (p ∷ ps)
   token_front b bs e is stop place r =
       let n : ℕ = length (b ∷ bs) in
       let token : kind_of (b ∷ bs) ≡ Some p.kind = ap kind_of (sym e) ∙ is.token in
@@ -86,14 +89,16 @@ module _ (whole : List ℕ) (at : ℕ) (before : Option TokenKind) (p : Piece) (
       (Ok (p.kind, n), (next p.kind b bs rest token stop, small), (Ok r.tokens, more, refl)))) in
       with_token whole at n before (b ∷ (bs ++ rest)) rest p ps place (bytes ∙ sym e) r lexes
 
-  token_reads : (bytes : List ℕ) → p.bytes ≡ bytes → IsToken p → stops p.kind rest ≡ true → bytes ++ rest ≡ drop at whole → ((here : ℕ) → rest ≡ drop here whole → Reads whole here (Some p.kind) rest ps) → Reads whole at before (bytes ++ rest) (p ∷ ps)
+  token_reads : (bytes : List ℕ) → p.bytes ≡ bytes → IsToken p → stops p.kind rest ≡ true → bytes ++ rest ≡ drop at whole
+      → ((here : ℕ) → rest ≡ drop here whole → Reads whole here (Some p.kind) rest ps) → Reads whole at before (bytes ++ rest) (p ∷ ps)
   token_reads [] e is stop place f = let none : None ≡ Some p.kind = sym empty_none ∙ ap kind_of (sym e) ∙ is.token in absurd (cc none)
   token_reads (b ∷ bs) e is stop place f =
       let n : ℕ = length (b ∷ bs) in
       token_front b bs e is stop place (f (at + n) (sym (drop-append_seam (b ∷ bs) rest) ∙ behind whole at n (b ∷ (bs ++ rest)) place))
 
 -- a line feed in front
-feed_reads : (whole : List ℕ) (at : ℕ) (before : Option TokenKind) (ps : List Piece) (rest : List ℕ) → separates before ≡ true → 10 ∷ rest ≡ drop at whole → ((here : ℕ) → rest ≡ drop here whole → Reads whole here (Some k.Separator) rest ps) → Reads whole at before (10 ∷ rest) (line_end ∷ ps)
+feed_reads : (whole : List ℕ) (at : ℕ) (before : Option TokenKind) (ps : List Piece) (rest : List ℕ) → separates before ≡ true → 10 ∷ rest ≡ drop at whole
+    → ((here : ℕ) → rest ≡ drop here whole → Reads whole here (Some k.Separator) rest ps) → Reads whole at before (10 ∷ rest) (line_end ∷ ps)
 feed_reads whole at before ps rest splits place f =
     let r : Reads whole (at + 1) (Some k.Separator) rest ps = f (at + 1) (behind whole at 1 (10 ∷ rest) place) in
     let lexes : Lexes (suc r.steps) at before (10 ∷ rest) (Ok (token_at k.Separator at 1 ∷ r.tokens)) = on_true (separates before) _ _ splits (Ok r.tokens, r.lexes, refl) in
