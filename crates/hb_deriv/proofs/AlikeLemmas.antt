@@ -4,7 +4,8 @@ use Rattle.std.specs.Prelude.{Ok, Err, if◌then◌else◌}
 use Rattle.hb_types.specs.declared.types.Ty.{Ty}
 use Rattle.hb_types.specs.declared.types.Ty.TheVariants as ty
 use Rattle.hb_types.specs.Variables.{Variables}
-use Rattle.hb_tree.specs.Tree.{Tree, TNil, TTrue, TFalse, TSelf, TInt, TText, TVar, TNew, TAssign, TPrint, TToStr, TNot, TBinary, TIf, TWhile, TCall, TDef, TDefComputed, TDeclare, TDeclareComputed, TBlock, Forest, NoTree, Trees, id_of}
+use Rattle.hb_tree.specs.Tree.{Tree, TNil, TTrue, TFalse, TSelf, TInt, TText, TVar, TNew, TAssign, TPrint, TToStr, TNot, TBinary, TIf, TWhile, TCall, TDef, TDefComputed}
+use Rattle.hb_tree.specs.Tree.{TDeclare, TDeclareComputed, TBlock, Forest, NoTree, Trees, id_of}
 use Rattle.hb_deriv.specs.declared.ill.Reason.TheVariants as reason
 use Rattle.hb_deriv.specs.Judge.{Types, Typed, Verdict, ◌>>=◌, fault, keys_of, called, call_type, judge, judge_items, judge_args, Subject, variables_of, has_count, ended, judge_body}
 use Rattle.hb_deriv.specs.Events.{Look, Done, Events, behind, done, look_at, events, events_items, events_args, events_body, SameIn}
@@ -22,7 +23,8 @@ itself : {A : Type 0} (v : Verdict A) (es : Events) → Alike v v es es
 itself v es = record { verdict = refl; events = refl }
 
 -- one part, and then what follows from it
-then_alike : {A B : Type 0} (t u : Types) (v w : Verdict A) (es fs : Events) (f g : A → Verdict B) (k j : A → Events) → SameIn t u (es ++ behind v k) → (SameIn t u es → Alike v w es fs) → ((r : A) → SameIn t u (k r) → Alike (f r) (g r) (k r) (j r)) → Alike (v >>= f) (w >>= g) (es ++ behind v k) (fs ++ behind w j)
+then_alike : {A B : Type 0} (t u : Types) (v w : Verdict A) (es fs : Events) (f g : A → Verdict B) (k j : A → Events) → SameIn t u (es ++ behind v k) → (SameIn t u es → Alike v w es fs)
+    → ((r : A) → SameIn t u (k r) → Alike (f r) (g r) (k r) (j r)) → Alike (v >>= f) (w >>= g) (es ++ behind v k) (fs ++ behind w j)
 unfolding ◌>>=◌ behind
 then_alike {A} {B} t u v w es fs f g k j h part rest = go v h part
   where
@@ -39,13 +41,10 @@ then_alike {A} {B} t u v w es fs f g k j h part rest = go v h part
         subst (λ (x : Verdict A). Alike (let y : Verdict B = Err e in y) (x >>= g) (es ++ []) (fs ++ behind x j)) p.verdict
         (record { verdict = refl; events = ap (λ l. l ++ []) p.events })
 
-called_alike : (t u : Types) (id m : ℕ) (G : Variables) (r : Ty) (ts : List Ty) → SameIn t u (look_at id (keys_of r m) ++ done id (call_type t id m G r ts)) → Alike (call_type t id m G r ts) (call_type u id m G r ts) (look_at id (keys_of r m) ++ done id (call_type t id m G r ts)) (look_at id (keys_of r m) ++ done id (call_type u id m G r ts))
-called_alike t u id m G ty.Nil ts h = itself _ _
-called_alike t u id m G ty.Bool ts h = itself _ _
-called_alike t u id m G ty.Int ts h = itself _ _
-called_alike t u id m G ty.Str ts h = itself _ _
-called_alike t u id m G ty.Any ts h = itself _ _
+called_alike : (t u : Types) (id m : ℕ) (G : Variables) (r : Ty) (ts : List Ty) → SameIn t u (look_at id (keys_of r m) ++ done id (call_type t id m G r ts))
+    → Alike (call_type t id m G r ts) (call_type u id m G r ts) (look_at id (keys_of r m) ++ done id (call_type t id m G r ts)) (look_at id (keys_of r m) ++ done id (call_type u id m G r ts))
 called_alike t u id m G (ty.Class c) ts h = record { verdict = ap (called id G ts) h.0; events = ap (λ s. Look id (c.0, m) ∷ done id (called id G ts s)) h.0 }
+called_alike _ _ _ _ _ _ _ _ = itself _ _
 
 mutual
   pub alike : (t u : Types) (self : ℕ) (e : Tree) (G : Variables) → SameIn t u (events t self e G) → Alike (judge t self e G) (judge u self e G) (events t self e G) (events u self e G)
@@ -75,11 +74,13 @@ mutual
   alike t u self (TDeclareComputed id c e s asks) G h = then_alike t u _ _ _ _ _ _ _ _ h (alike t u self e G) (λ r h. itself _ _)
   alike t u self (TBlock id es) G h = alike_items t u self es G ty.Nil h
 
-  pub alike_items : (t u : Types) (self : ℕ) (es : Forest) (G : Variables) (r : Ty) → SameIn t u (events_items t self es G r) → Alike (judge_items t self es G r) (judge_items u self es G r) (events_items t self es G r) (events_items u self es G r)
+  pub alike_items : (t u : Types) (self : ℕ) (es : Forest) (G : Variables) (r : Ty) → SameIn t u (events_items t self es G r)
+      → Alike (judge_items t self es G r) (judge_items u self es G r) (events_items t self es G r) (events_items u self es G r)
   alike_items t u self NoTree G r h = itself _ _
   alike_items t u self (Trees e es) G r h = then_alike t u _ _ _ _ _ _ _ _ h (alike t u self e G) (λ p h. alike_items t u self es p.0 p.1 h)
 
-  pub alike_args : (t u : Types) (self : ℕ) (es : Forest) (G : Variables) (ts : List Ty) → SameIn t u (events_args t self es G ts) → Alike (judge_args t self es G ts) (judge_args u self es G ts) (events_args t self es G ts) (events_args u self es G ts)
+  pub alike_args : (t u : Types) (self : ℕ) (es : Forest) (G : Variables) (ts : List Ty) → SameIn t u (events_args t self es G ts)
+      → Alike (judge_args t self es G ts) (judge_args u self es G ts) (events_args t self es G ts) (events_args u self es G ts)
   alike_args t u self NoTree G ts h = itself _ _
   alike_args t u self (Trees e es) G ts h = then_alike t u _ _ _ _ _ _ _ _ h (alike t u self e G) (λ p h. alike_args t u self es p.0 (ts ++ p.1 ∷ []) h)
 
@@ -90,7 +91,9 @@ alike_body t u s h = go (has_count s) h
     none : Verdict Typed
     none = fault (id_of s.block) reason.Count
 
-    go : (b : Bool) → SameIn t u (if b then events t s.self s.block (variables_of s) else []) → Alike (if b then judge t s.self s.block (variables_of s) >>= ended s else none) (if b then judge u s.self s.block (variables_of s) >>= ended s else none) (if b then events t s.self s.block (variables_of s) else []) (if b then events u s.self s.block (variables_of s) else [])
+    go : (b : Bool) → SameIn t u (if b then events t s.self s.block (variables_of s) else [])
+        → Alike (if b then judge t s.self s.block (variables_of s) >>= ended s else none) (if b then judge u s.self s.block (variables_of s) >>= ended s else none)
+        (if b then events t s.self s.block (variables_of s) else []) (if b then events u s.self s.block (variables_of s) else [])
     go false h = itself _ _
     go true h =
         let p = alike t u s.self s.block (variables_of s) h in

@@ -9,12 +9,17 @@ use Rattle.hb_types.specs.declared.ids.ClassId.{ClassId}
 use Rattle.hb_types.specs.declared.types.MethodTy.{MethodTy}
 use Rattle.hb_types.specs.Types.{is_below, params_of}
 use Rattle.hb_types.specs.Variables.{Variables, get, keeps}
-use Rattle.hb_tree.specs.Tree.{Tree, TNil, TTrue, TFalse, TSelf, TInt, TText, TVar, TNew, TAssign, TPrint, TToStr, TNot, TBinary, TIf, TWhile, TCall, TDef, TDefComputed, TDeclare, TDeclareComputed, TBlock, Forest, NoTree, Trees, id_of}
+use Rattle.hb_tree.specs.Tree.{Tree, TNil, TTrue, TFalse, TSelf, TInt, TText, TVar, TNew, TAssign, TPrint, TToStr, TNot, TBinary, TIf, TWhile, TCall, TDef, TDefComputed}
+use Rattle.hb_tree.specs.Tree.{TDeclare, TDeclareComputed, TBlock, Forest, NoTree, Trees, id_of}
 use Rattle.hb_deriv.specs.declared.ill.Ill.{Ill}
 use Rattle.hb_deriv.specs.declared.ill.Reason.TheVariants as reason
-use Rattle.hb_deriv.specs.Judge.{Types, Typed, Verdict, ◌>>=◌, ill_at, fault, variable_type, operand_limit, all_below, called, call_type, judge, judge_items, judge_args, Subject, variables_of, has_count, ended, judge_body}
+use Rattle.hb_deriv.specs.Judge.{Types, Typed, Verdict, ◌>>=◌, ill_at, fault, variable_type, operand_limit, all_below, called, call_type, judge, judge_items, judge_args}
+use Rattle.hb_deriv.specs.Judge.{Subject, variables_of, has_count, ended, judge_body}
 use Rattle.hb_deriv.specs.Judgement.{Judged, JudgedArgs, IsJudged}
-use Rattle.hb_deriv.specs.Faults.{IsNoClass, Fails, FailsVar, FailsAssign, FailsPrint, FailsToStr, FailsNot, FailsLeft, FailsRight, FailsOperand, FailsTest, FailsFirst, FailsSecond, FailsCondition, FailsTurn, FailsLoop, FailsReceiver, FailsArgs, FailsNoClass, FailsNoType, FailsCount, FailsArgument, FailsDefName, FailsDefText, FailsDeclareName, FailsDeclareText, FailsBlock, ItemsFail, FailsItem, FailsLaterItem, ArgsFail, FailsArg, FailsLaterArg, BodyFails, BodyCount, BodyPart, BodyResult}
+use Rattle.hb_deriv.specs.Faults.{IsNoClass, Fails, FailsVar, FailsAssign, FailsPrint, FailsToStr, FailsNot, FailsLeft, FailsRight, FailsOperand, FailsTest, FailsFirst}
+use Rattle.hb_deriv.specs.Faults.{FailsSecond, FailsCondition, FailsTurn, FailsLoop, FailsReceiver, FailsArgs, FailsNoClass, FailsNoType, FailsCount, FailsArgument}
+use Rattle.hb_deriv.specs.Faults.{FailsDefName, FailsDefText, FailsDeclareName, FailsDeclareText, FailsBlock, ItemsFail, FailsItem, FailsLaterItem, ArgsFail, FailsArg}
+use Rattle.hb_deriv.specs.Faults.{FailsLaterArg, BodyFails, BodyCount, BodyPart, BodyResult}
 use Rattle.hb_deriv.proofs.JudgementLemmas.{judge_of, args_of, judged_of, judged_args, body_judged, judge_body_of}
 
 other : (a b : ℕ) → (a ≡ b → ⊥) → nat_eq a b ≡ false
@@ -24,12 +29,8 @@ not_equal : (a b : ℕ) → nat_eq a b ≡ false → a ≡ b → ⊥
 not_equal a b h e = let k = eq-eqb a b e in cc
 
 no_class : (types : Types) (id m : ℕ) (G : Variables) (p : Ty) (ts : List Ty) → IsNoClass p → call_type types id m G p ts ≡ fault id reason.Receiver
-no_class types id m G ty.Nil ts h = refl
-no_class types id m G ty.Bool ts h = refl
-no_class types id m G ty.Int ts h = refl
-no_class types id m G ty.Str ts h = refl
-no_class types id m G ty.Any ts h = refl
 no_class types id m G (ty.Class c) ts h = absurd h
+no_class _ _ _ _ _ _ _ = refl
 
 mutual
   unfolding ◌>>=◌
@@ -93,15 +94,20 @@ variable_err id G (Some t) f h = absurd (cc)
 as_told : (types : Types) (self : ℕ) (G : Variables) (e : Tree) (f g : Ill) → f ≡ g → Fails types self G e f → Fails types self G e g
 as_told types self G e f g h = subst (λ (x : Ill). Fails types self G e x) h
 
-called_fails : (types : Types) (self id m : ℕ) (c : ClassId) (G : Variables) (r : Tree) (args : Forest) (G1 G2 : Variables) (ts : List Ty) (f : Ill) (o : Option MethodTy) → types (c.0, m) ≡ o → Judged types self G r G1 (ty.Class c) → JudgedArgs types self G1 args [] G2 ts → called id G2 ts o ≡ Err f → Fails types self G (TCall id r m args) f
+called_fails : (types : Types) (self id m : ℕ) (c : ClassId) (G : Variables) (r : Tree) (args : Forest) (G1 G2 : Variables) (ts : List Ty) (f : Ill) (o : Option MethodTy) → types (c.0, m) ≡ o
+    → Judged types self G r G1 (ty.Class c) → JudgedArgs types self G1 args [] G2 ts → called id G2 ts o ≡ Err f → Fails types self G (TCall id r m args) f
 called_fails types self id m c G r args G1 G2 ts f None is j k h = let same : ill_at id reason.NoType ≡ f = cc in as_told types self G (TCall id r m args) _ f same (FailsNoType j k is)
 called_fails types self id m c G r args G1 G2 ts f (Some s) is j k h = go (nat_eq (length ts) s.count) refl h
   where
-    go : (b : Bool) → nat_eq (length ts) s.count ≡ b → (let x : Typed = (G2, s.result) in let v : Verdict Typed = if b then (if all_below ts (params_of s) then Ok x else fault id reason.Argument) else fault id reason.Count in v) ≡ Err f → Fails types self G (TCall id r m args) f
-    go true e h = let g = guard_err (all_below ts (params_of s)) (G2, s.result) (ill_at id reason.Argument) f h in as_told types self G (TCall id r m args) _ f g.1 (FailsArgument j k is (eqb-true (length ts) s.count e) g.0)
+    go : (b : Bool) → nat_eq (length ts) s.count ≡ b → (let x : Typed = (G2, s.result) in
+        let v : Verdict Typed = if b then (if all_below ts (params_of s) then Ok x else fault id reason.Argument) else fault id reason.Count in v) ≡ Err f
+        → Fails types self G (TCall id r m args) f
+    go true e h = let g = guard_err (all_below ts (params_of s)) (G2, s.result) (ill_at id reason.Argument) f h in
+        as_told types self G (TCall id r m args) _ f g.1 (FailsArgument j k is (eqb-true (length ts) s.count e) g.0)
     go false e h = let same : ill_at id reason.Count ≡ f = cc in as_told types self G (TCall id r m args) _ f same (FailsCount j k is (not_equal (length ts) s.count e))
 
-call_fails : (types : Types) (self id m : ℕ) (G : Variables) (r : Tree) (args : Forest) (G1 : Variables) (p : Ty) (G2 : Variables) (ts : List Ty) (f : Ill) → Judged types self G r G1 p → JudgedArgs types self G1 args [] G2 ts → call_type types id m G2 p ts ≡ Err f → Fails types self G (TCall id r m args) f
+call_fails : (types : Types) (self id m : ℕ) (G : Variables) (r : Tree) (args : Forest) (G1 : Variables) (p : Ty) (G2 : Variables) (ts : List Ty) (f : Ill) → Judged types self G r G1 p
+    → JudgedArgs types self G1 args [] G2 ts → call_type types id m G2 p ts ≡ Err f → Fails types self G (TCall id r m args) f
 call_fails types self id m G r args G1 (ty.Class c) G2 ts f j k h = called_fails types self id m c G r args G1 G2 ts f (types (c.0, m)) refl j k h
 call_fails types self id m G r args G1 ty.Nil G2 ts f j k h = let same : ill_at id reason.Receiver ≡ f = cc in as_told types self G (TCall id r m args) _ f same (FailsNoClass j k tt)
 call_fails types self id m G r args G1 ty.Bool G2 ts f j k h = let same : ill_at id reason.Receiver ≡ f = cc in as_told types self G (TCall id r m args) _ f same (FailsNoClass j k tt)

@@ -46,7 +46,8 @@ ends_so limit s t [] z h = go (is_below t limit) refl h
 pub good_derives : (sites : Sites) (s : Subject) (d : Content) → IsGood sites s d → (types : Types) → AgreesWith sites d.uses types → Derives types s d
 good_derives sites s d g types h = counted (has_count s) refl g.ends
   where
-    finish : (z : State) → Passed (start d) (events_in (table sites d.uses) s) z → (y : Typed) → judge_in (table sites d.uses) s ≡ Ok y → z.left ≡ [] → z.steps ≡ [] → is_below y.1 s.declared.result ≡ true → has_count s ≡ true → Derives types s d
+    finish : (z : State) → Passed (start d) (events_in (table sites d.uses) s) z → (y : Typed) → judge_in (table sites d.uses) s ≡ Ok y → z.left ≡ [] → z.steps ≡ []
+        → is_below y.1 s.declared.result ≡ true → has_count s ≡ true → Derives types s d
     finish z p y j l m b n =
         let all_used : d.uses ≡ p.used = p.left ∙ ap (λ (us : List Used). p.used ++ us) l ∙ append-nil p.used in
         let taken : z.taken ≡ d.uses = p.taken ∙ sym all_used in
@@ -55,7 +56,8 @@ good_derives sites s d g types h = counted (has_count s) refl g.ends
         record {
           judged = record { count = eqb-true (length s.params) s.declared.count n; behind = y.0; ty = y.1; judged = judged_of types s.self s.block (variables_of s) y (sym q.verdict ∙ j); below = b };
           uses = ap (map key_of) all_used ∙ p.keys ∙ ap (λ (es : Events). fresh [] es) (q.events ∙ sym (events_in_body types s n));
-          steps = p.steps ∙ ap (λ (ps : List Step). steps_of (events_in (table sites d.uses) s) ++ ps) m ∙ append-nil (steps_of (events_in (table sites d.uses) s)) ∙ ap steps_of (q.events ∙ sym (events_in_body types s n));
+          steps = p.steps ∙ ap (λ (ps : List Step). steps_of (events_in (table sites d.uses) s) ++ ps) m ∙ append-nil (steps_of (events_in (table sites d.uses) s))
+              ∙ ap steps_of (q.events ∙ sym (events_in_body types s n));
         }
 
     counted : (b : Bool) → has_count s ≡ b → (if b then walk sites s.self s.block (variables_of s) (start d) >>> (λ p. at_end s.declared.result p.0 p.1.1 p.0.steps) else Err (AtStep 0)) ≡ Ok g.last → Derives types s d
@@ -70,7 +72,8 @@ good_derives sites s d g types h = counted (has_count s) refl g.ends
         (ap (λ (x : State). x.steps) y.1 ∙ z.0)
         z.1 n
 
-ends_of : (sites : Sites) (s : Subject) (d : Content) (z : State) (G : Variables) (t : Ty) → has_count s ≡ true → walk sites s.self s.block (variables_of s) (start d) ≡ Ok (z, (G, t)) → z.steps ≡ [] → is_below t s.declared.result ≡ true → z.left ≡ [] → walk_body sites s d ≡ Ok z
+ends_of : (sites : Sites) (s : Subject) (d : Content) (z : State) (G : Variables) (t : Ty) → has_count s ≡ true → walk sites s.self s.block (variables_of s) (start d) ≡ Ok (z, (G, t))
+    → z.steps ≡ [] → is_below t s.declared.result ≡ true → z.left ≡ [] → walk_body sites s d ≡ Ok z
 ends_of sites s d z G t n h p b l = rw n (then_of _ _ (z, (G, t)) z h (rw (p, b, l) refl))
 
 pub derived_is_good : (sites : Sites) (s : Subject) (d : Content) (types : Types) → AgreesWith sites d.uses types → Derives types s d → IsGood sites s d
@@ -82,7 +85,8 @@ derived_is_good sites s d types h p =
     let q = alike types (table sites d.uses) s.self s.block (variables_of s) (same_back (table sites d.uses) types (events_in types s) (same_in sites d.uses types (events_in types s) have h)) in
     let w = passes (events_in types s) [] d.uses 0 uses in
     let r : replay (start d) (events_in (table sites d.uses) s) ≡ Ok w.last =
-    ap (λ (es : Events). replay (start d) es) (sym q.events) ∙ ap (λ (ps : List Step). replay (let z : State = record { taken = []; left = d.uses; steps = ps; passed = 0 } in z) (events_in types s)) (p.steps ∙ ap steps_of es) ∙ w.by in
+    ap (λ (es : Events). replay (start d) es) (sym q.events)
+        ∙ ap (λ (ps : List Step). replay (let z : State = record { taken = []; left = d.uses; steps = ps; passed = 0 } in z) (events_in types s)) (p.steps ∙ ap steps_of es) ∙ w.by in
     let t : walk sites s.self s.block (variables_of s) (start d) ≡ Ok (w.last, (p.judged.behind, p.judged.ty)) =
     (along sites d.uses s.self s.block (variables_of s)).by (start d) refl ∙ then_of _ _ w.last (w.last, (p.judged.behind, p.judged.ty)) r (ap (λ v. answer v w.last) (sym q.verdict ∙ judge_of p.judged.judged)) in
     record { last = w.last; ends = ends_of sites s d w.last p.judged.behind p.judged.ty n t w.no_step p.judged.below w.no_use }

@@ -8,11 +8,15 @@ use Rattle.hb_types.specs.declared.ids.ClassId.{ClassId}
 use Rattle.hb_types.specs.declared.types.MethodTy.{MethodTy}
 use Rattle.hb_types.specs.Types.{is_below, join_of, params_of}
 use Rattle.hb_types.specs.Variables.{Variables, get, join, keeps}
-use Rattle.hb_tree.specs.Tree.{Tree, TNil, TTrue, TFalse, TSelf, TInt, TText, TVar, TNew, TAssign, TPrint, TToStr, TNot, TBinary, TIf, TWhile, TCall, TDef, TDefComputed, TDeclare, TDeclareComputed, TBlock, Forest, NoTree, Trees, id_of}
+use Rattle.hb_tree.specs.Tree.{Tree, TNil, TTrue, TFalse, TSelf, TInt, TText, TVar, TNew, TAssign, TPrint, TToStr, TNot, TBinary, TIf, TWhile, TCall, TDef, TDefComputed}
+use Rattle.hb_tree.specs.Tree.{TDeclare, TDeclareComputed, TBlock, Forest, NoTree, Trees, id_of}
 use Rattle.hb_deriv.specs.declared.ill.Ill.{Ill}
 use Rattle.hb_deriv.specs.declared.ill.Reason.TheVariants as reason
-use Rattle.hb_deriv.specs.Judge.{Types, Typed, Verdict, ◌>>=◌, ill_at, fault, variable_type, operand_limit, operator_type, all_below, called, call_type, judge, judge_items, judge_args, Subject, variables_of, has_count, ended, judge_body}
-use Rattle.hb_deriv.specs.Judgement.{Judged, JudgedItems, JudgedArgs, JudgedNil, JudgedTrue, JudgedFalse, JudgedSelf, JudgedInt, JudgedText, JudgedVar, JudgedNew, JudgedAssign, JudgedPrint, JudgedToStr, JudgedNot, JudgedBinary, JudgedIf, JudgedWhile, JudgedCall, JudgedDef, JudgedDefComputed, JudgedDeclare, JudgedDeclareComputed, JudgedBlock, JudgedNoItem, JudgedItem, JudgedNoArg, JudgedArg, IsJudged}
+use Rattle.hb_deriv.specs.Judge.{Types, Typed, Verdict, ◌>>=◌, ill_at, fault, variable_type, operand_limit, operator_type, all_below, called, call_type, judge, judge_items}
+use Rattle.hb_deriv.specs.Judge.{judge_args, Subject, variables_of, has_count, ended, judge_body}
+use Rattle.hb_deriv.specs.Judgement.{Judged, JudgedItems, JudgedArgs, JudgedNil, JudgedTrue, JudgedFalse, JudgedSelf, JudgedInt, JudgedText, JudgedVar, JudgedNew, JudgedAssign}
+use Rattle.hb_deriv.specs.Judgement.{JudgedPrint, JudgedToStr, JudgedNot, JudgedBinary, JudgedIf, JudgedWhile, JudgedCall, JudgedDef, JudgedDefComputed, JudgedDeclare}
+use Rattle.hb_deriv.specs.Judgement.{JudgedDeclareComputed, JudgedBlock, JudgedNoItem, JudgedItem, JudgedNoArg, JudgedArg, IsJudged}
 
 -- complete: what the relation has is computed
 mutual
@@ -72,21 +76,19 @@ variable_ok : (id : ℕ) (G : Variables) (o : Option Ty) (y : Typed) → variabl
 variable_ok id G None y h = absurd (cc)
 variable_ok id G (Some t) y h = (t, refl, cc)
 
-called_ok : (id : ℕ) (G : Variables) (ts : List Ty) (o : Option MethodTy) (y : Typed) → called id G ts o ≡ Ok y → (s : MethodTy) × (o ≡ Some s) × (length ts ≡ s.count) × (all_below ts (params_of s) ≡ true) × ((G, s.result) ≡ y)
+called_ok : (id : ℕ) (G : Variables) (ts : List Ty) (o : Option MethodTy) (y : Typed) → called id G ts o ≡ Ok y
+    → (s : MethodTy) × (o ≡ Some s) × (length ts ≡ s.count) × (all_below ts (params_of s) ≡ true) × ((G, s.result) ≡ y)
 called_ok id G ts None y h = absurd (cc)
 called_ok id G ts (Some s) y h = count (nat_eq (length ts) s.count) refl h
   where
-    count : (b : Bool) → nat_eq (length ts) s.count ≡ b → (if b then (if all_below ts (params_of s) then Ok (G, s.result) else fault id reason.Argument) else fault id reason.Count) ≡ Ok y → (r : MethodTy) × (Some s ≡ Some r) × (length ts ≡ r.count) × (all_below ts (params_of r) ≡ true) × ((G, r.result) ≡ y)
+    count : (b : Bool) → nat_eq (length ts) s.count ≡ b → (if b then (if all_below ts (params_of s) then Ok (G, s.result) else fault id reason.Argument) else fault id reason.Count) ≡ Ok y
+        → (r : MethodTy) × (Some s ≡ Some r) × (length ts ≡ r.count) × (all_below ts (params_of r) ≡ true) × ((G, r.result) ≡ y)
     count true e h = let k = guard_ok (all_below ts (params_of s)) (G, s.result) y (ill_at id reason.Argument) h in (s, refl, eqb-true (length ts) s.count e, k.0, k.1)
     count false e h = absurd (cc)
 
 call_ok : (types : Types) (id m : ℕ) (G : Variables) (t : Ty) (ts : List Ty) (y : Typed) → call_type types id m G t ts ≡ Ok y → (c : ClassId) × (t ≡ ty.Class c) × (called id G ts (types (c.0, m)) ≡ Ok y)
-call_ok types id m G ty.Nil ts y h = absurd (cc)
-call_ok types id m G ty.Bool ts y h = absurd (cc)
-call_ok types id m G ty.Int ts y h = absurd (cc)
-call_ok types id m G ty.Str ts y h = absurd (cc)
-call_ok types id m G ty.Any ts y h = absurd (cc)
 call_ok types id m G (ty.Class c) ts y h = (c, refl, h)
+call_ok types id m _ _ ts y h = absurd (cc)
 
 -- what is judged, with its variables and type written otherwise
 as_said : (types : Types) (self : ℕ) (G : Variables) (e : Tree) (x y : Typed) → x ≡ y → Judged types self G e x.0 x.1 → Judged types self G e y.0 y.1
@@ -124,7 +126,8 @@ mutual
       let t = bind_ok (judge types self c G) _ y h in
       let l = bind_ok (judge types self a t.0.0) _ y t.2 in
       let r = bind_ok (judge types self b t.0.0) _ y l.2 in
-      as_said types self G (TIf id c a b) (join l.0.0 r.0.0, join_of l.0.1 r.0.1) y (ok_same _ y r.2) (JudgedIf (judged_of types self c G t.0 t.1) (judged_of types self a t.0.0 l.0 l.1) (judged_of types self b t.0.0 r.0 r.1))
+      as_said types self G (TIf id c a b) (join l.0.0 r.0.0, join_of l.0.1 r.0.1) y (ok_same _ y r.2)
+          (JudgedIf (judged_of types self c G t.0 t.1) (judged_of types self a t.0.0 l.0 l.1) (judged_of types self b t.0.0 r.0 r.1))
   judged_of types self (TWhile id c b) G y h =
       let t = bind_ok (judge types self c G) _ y h in
       let r = bind_ok (judge types self b t.0.0) _ y t.2 in

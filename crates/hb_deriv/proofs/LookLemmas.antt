@@ -61,13 +61,15 @@ place_of seen (Done id r ∷ es) ks k rest h =
     record { front = Done id r ∷ p.front; id = p.id; rest = p.rest; is = ap (λ (l : Events). Done id r ∷ l) p.is; before = p.before; new = p.new }
 place_of seen (Look id j ∷ es) ks k rest h = go (has j seen) refl ks h (λ seen ks. place_of seen es ks k rest)
   where
-    go : (b : Bool) → has j seen ≡ b → (ks : List Key) → (if b then fresh seen es else j ∷ fresh (seen ++ j ∷ []) es) ≡ ks ++ k ∷ rest → ((seen ks : List Key) → fresh seen es ≡ ks ++ k ∷ rest → Place seen es ks k) → Place seen (Look id j ∷ es) ks k
+    go : (b : Bool) → has j seen ≡ b → (ks : List Key) → (if b then fresh seen es else j ∷ fresh (seen ++ j ∷ []) es) ≡ ks ++ k ∷ rest
+        → ((seen ks : List Key) → fresh seen es ≡ ks ++ k ∷ rest → Place seen es ks k) → Place seen (Look id j ∷ es) ks k
     go true e ks h later =
         let p = later seen ks h in
         record { front = Look id j ∷ p.front; id = p.id; rest = p.rest; is = ap (λ (l : Events). Look id j ∷ l) p.is; before = rw e p.before; new = p.new }
     go false e [] h later =
         let q = head_key j k (fresh (seen ++ j ∷ []) es) rest h in
-        record { front = []; id = id; rest = es; is = ap (λ (i : Key). Look id i ∷ es) q.0; before = refl; new = subst (λ (l : List Key). has k l ≡ false) (sym (append-nil seen)) (subst (λ (i : Key). has i seen ≡ false) q.0 e) }
+        record { front = []; id = id; rest = es; is = ap (λ (i : Key). Look id i ∷ es) q.0; before = refl;
+            new = subst (λ (l : List Key). has k l ≡ false) (sym (append-nil seen)) (subst (λ (i : Key). has i seen ≡ false) q.0 e) }
     go false e (i ∷ ks) h later =
         let q = head_key j i (fresh (seen ++ j ∷ []) es) (ks ++ k ∷ rest) h in
         let p = later (seen ++ j ∷ []) ks q.1 in
@@ -86,7 +88,9 @@ fresh_both seen [] fs = ap (λ (l : List Key). fresh l fs) (sym (append-nil seen
 fresh_both seen (Done id t ∷ es) fs = fresh_both seen es fs
 fresh_both seen (Look id k ∷ es) fs = go (has k seen) (λ ks. fresh_both ks es fs)
   where
-    go : (b : Bool) → ((ks : List Key) → fresh ks (es ++ fs) ≡ fresh ks es ++ fresh (ks ++ fresh ks es) fs) → (if b then fresh seen (es ++ fs) else k ∷ fresh (seen ++ k ∷ []) (es ++ fs)) ≡ (if b then fresh seen es else k ∷ fresh (seen ++ k ∷ []) es) ++ fresh (seen ++ (if b then fresh seen es else k ∷ fresh (seen ++ k ∷ []) es)) fs
+    go : (b : Bool) → ((ks : List Key) → fresh ks (es ++ fs) ≡ fresh ks es ++ fresh (ks ++ fresh ks es) fs)
+        → (if b then fresh seen (es ++ fs) else k ∷ fresh (seen ++ k ∷ []) (es ++ fs)) ≡ (if b then fresh seen es else k ∷ fresh (seen ++ k ∷ []) es)
+        ++ fresh (seen ++ (if b then fresh seen es else k ∷ fresh (seen ++ k ∷ []) es)) fs
     go true rest = rest seen
     go false rest =
         ap (λ (l : List Key). k ∷ l) (rest (seen ++ k ∷ [])) ∙ ap (λ (l : List Key). k ∷ (fresh (seen ++ k ∷ []) es ++ fresh l fs)) (append_assoc seen (k ∷ []) (fresh (seen ++ k ∷ []) es))

@@ -4,7 +4,8 @@ use Rattle.std.specs.Prelude.{Ok, Err, if◌then◌else◌}
 use Rattle.hb_types.specs.declared.types.Ty.{Ty}
 use Rattle.hb_types.specs.declared.types.Ty.TheVariants as ty
 use Rattle.hb_types.specs.Variables.{Variables}
-use Rattle.hb_tree.specs.Tree.{Tree, TNil, TTrue, TFalse, TSelf, TInt, TText, TVar, TNew, TAssign, TPrint, TToStr, TNot, TBinary, TIf, TWhile, TCall, TDef, TDefComputed, TDeclare, TDeclareComputed, TBlock, Forest, NoTree, Trees}
+use Rattle.hb_tree.specs.Tree.{Tree, TNil, TTrue, TFalse, TSelf, TInt, TText, TVar, TNew, TAssign, TPrint, TToStr, TNot, TBinary, TIf, TWhile, TCall, TDef, TDefComputed}
+use Rattle.hb_tree.specs.Tree.{TDeclare, TDeclareComputed, TBlock, Forest, NoTree, Trees}
 use Rattle.hb_deriv.specs.Judge.{Types, Verdict, keys_of, called, call_type, Subject, variables_of, has_count}
 use Rattle.hb_deriv.specs.Events.{Event, Look, Events, behind, done, look_at, events, events_items, events_args, events_body, SameIn}
 use Rattle.hb_deriv.proofs.AlikeLemmas.{Alike, parts_in, alike, alike_args}
@@ -34,7 +35,8 @@ none_here (x ∷ ks) k rest h = cc
 onward_same : (t u : Types) (ls : Events) → Onward t u ls ls
 onward_same t u ls = record { by = λ ks k rest h s. (rest, h) }
 
-onward_then : {A : Type 0} (t u : Types) (v w : Verdict A) (ls ms : Events) (f g : A → Events) → Onward t u ls ms → (SameIn t u ls → Alike v w ls ms) → ((r : A) → Onward t u (f r) (g r)) → Onward t u (ls ++ behind v f) (ms ++ behind w g)
+onward_then : {A : Type 0} (t u : Types) (v w : Verdict A) (ls ms : Events) (f g : A → Events) → Onward t u ls ms → (SameIn t u ls → Alike v w ls ms) → ((r : A) → Onward t u (f r) (g r))
+    → Onward t u (ls ++ behind v f) (ms ++ behind w g)
 unfolding behind
 onward_then {A} t u v w ls ms f g part whole rest = record { by = λ ks k tail h s. ⊎_elim (λ q. first ks k s q.0 q.1) (λ q. second ks k tail s q.0 q.1 q.2) (split ls (behind v f) ks k tail h) }
   where
@@ -54,19 +56,16 @@ onward_then {A} t u v w ls ms f g part whole rest = record { by = λ ks k tail h
             (q.0, ap (λ (x : Verdict A). ms ++ behind x g) (sym xw) ∙ ap (λ l. ms ++ l) q.1 ∙ ap (λ l. l ++ (js ++ k ∷ q.0)) (sym lm) ∙ sym (append_assoc ls js (k ∷ q.0)) ∙ ap (λ l. l ++ k ∷ q.0) (sym e))
 
 onward_call : (t u : Types) (id m : ℕ) (G : Variables) (p : Ty) (ts : List Ty) → Onward t u (look_at id (keys_of p m) ++ done id (call_type t id m G p ts)) (look_at id (keys_of p m) ++ done id (call_type u id m G p ts))
-onward_call t u id m G ty.Nil ts = onward_same t u _
-onward_call t u id m G ty.Bool ts = onward_same t u _
-onward_call t u id m G ty.Int ts = onward_same t u _
-onward_call t u id m G ty.Str ts = onward_same t u _
-onward_call t u id m G ty.Any ts = onward_same t u _
 onward_call t u id m G (ty.Class c) ts = record { by = go }
   where
-    go : (ks : Events) (k : Event) (rest : Events) → Look id (c.0, m) ∷ done id (called id G ts (t (c.0, m))) ≡ ks ++ k ∷ rest → SameIn t u ks → (others : Events) × (Look id (c.0, m) ∷ done id (called id G ts (u (c.0, m))) ≡ ks ++ k ∷ others)
+    go : (ks : Events) (k : Event) (rest : Events) → Look id (c.0, m) ∷ done id (called id G ts (t (c.0, m))) ≡ ks ++ k ∷ rest → SameIn t u ks
+        → (others : Events) × (Look id (c.0, m) ∷ done id (called id G ts (u (c.0, m))) ≡ ks ++ k ∷ others)
     go [] k rest h s = let p = head_same (Look id (c.0, m)) k (done id (called id G ts (t (c.0, m)))) rest h in (done id (called id G ts (u (c.0, m))), ap (λ (y : Event). y ∷ done id (called id G ts (u (c.0, m)))) p.0)
     go (y ∷ ks) k rest h s =
         let p = head_same (Look id (c.0, m)) y (done id (called id G ts (t (c.0, m)))) (ks ++ k ∷ rest) h in
         let e = (subst (λ (x : Event). SameIn t u (x ∷ ks)) (sym p.0) s).0 in
         (rest, ap (λ o. Look id (c.0, m) ∷ done id (called id G ts o)) (sym e) ∙ h)
+onward_call t u _ _ _ _ _ = onward_same t u _
 
 mutual
   pub onward : (t u : Types) (self : ℕ) (e : Tree) (G : Variables) → Onward t u (events t self e G) (events u self e G)
@@ -83,9 +82,11 @@ mutual
   onward t u self (TToStr id e) G = onward_then t u _ _ _ _ _ _ (onward t u self e G) (alike t u self e G) (λ r. onward_same t u _)
   onward t u self (TNot id e) G = onward_then t u _ _ _ _ _ _ (onward t u self e G) (alike t u self e G) (λ r. onward_same t u _)
   onward t u self (TBinary id o a b) G = onward_then t u _ _ _ _ _ _ (onward t u self a G) (alike t u self a G) (λ r. onward_then t u _ _ _ _ _ _ (onward t u self b r.0) (alike t u self b r.0) (λ q. onward_same t u _))
-  onward t u self (TIf id c a b) G = onward_then t u _ _ _ _ _ _ (onward t u self c G) (alike t u self c G) (λ r. onward_then t u _ _ _ _ _ _ (onward t u self a r.0) (alike t u self a r.0) (λ p. onward_then t u _ _ _ _ _ _ (onward t u self b r.0) (alike t u self b r.0) (λ q. onward_same t u _)))
+  onward t u self (TIf id c a b) G = onward_then t u _ _ _ _ _ _ (onward t u self c G) (alike t u self c G)
+      (λ r. onward_then t u _ _ _ _ _ _ (onward t u self a r.0) (alike t u self a r.0) (λ p. onward_then t u _ _ _ _ _ _ (onward t u self b r.0) (alike t u self b r.0) (λ q. onward_same t u _)))
   onward t u self (TWhile id c b) G = onward_then t u _ _ _ _ _ _ (onward t u self c G) (alike t u self c G) (λ r. onward_then t u _ _ _ _ _ _ (onward t u self b r.0) (alike t u self b r.0) (λ q. onward_same t u _))
-  onward t u self (TCall id r m args) G = onward_then t u _ _ _ _ _ _ (onward t u self r G) (alike t u self r G) (λ p. onward_then t u _ _ _ _ _ _ (onward_args t u self args p.0 []) (alike_args t u self args p.0 []) (λ q. onward_call t u id m q.0 p.1 q.1))
+  onward t u self (TCall id r m args) G = onward_then t u _ _ _ _ _ _ (onward t u self r G) (alike t u self r G)
+      (λ p. onward_then t u _ _ _ _ _ _ (onward_args t u self args p.0 []) (alike_args t u self args p.0 []) (λ q. onward_call t u id m q.0 p.1 q.1))
   onward t u self (TDef id c m s b) G = onward_same t u _
   onward t u self (TDefComputed id c e s b) G = onward_then t u _ _ _ _ _ _ (onward t u self e G) (alike t u self e G) (λ r. onward_same t u _)
   onward t u self (TDeclare id c m s asks) G = onward_same t u _

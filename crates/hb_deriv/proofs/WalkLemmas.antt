@@ -95,7 +95,8 @@ passed_by s (Look id k ∷ es) z h =
             let u = q.0 in
             let p = subst (λ (y : State). Passed y es z) (sym q.4) p0 in
             let whole : z.taken ≡ s.taken ++ u ∷ p.used = p.taken ∙ append_assoc s.taken (u ∷ []) p.used in
-            let names : map key_of z.taken ≡ map key_of s.taken ++ k ∷ map key_of p.used = ap (map key_of) whole ∙ map-append key_of s.taken (u ∷ p.used) ∙ ap (λ (j : Key). map key_of s.taken ++ j ∷ map key_of p.used) q.3 in
+            let names : map key_of z.taken ≡ map key_of s.taken ++ k ∷ map key_of p.used = ap (map key_of) whole ∙ map-append key_of s.taken (u ∷ p.used)
+                 ∙ ap (λ (j : Key). map key_of s.taken ++ j ∷ map key_of p.used) q.3 in
             let seen : map key_of (s.taken ++ u ∷ []) ≡ map key_of s.taken ++ k ∷ [] = map-append key_of s.taken (u ∷ []) ∙ ap (λ (j : Key). map key_of s.taken ++ j ∷ []) q.3 in
             record {
               used = u ∷ p.used;
@@ -132,7 +133,8 @@ passes (Done id t ∷ es) taken us n h =
     go p = record { last = p.last; by = then_of _ (λ x. replay x es) (state_at taken us (steps_of es) (suc n)) p.last (rw (eq-eqb id id refl, same_ty_itself t) refl) p.by; no_use = p.no_use; no_step = p.no_step }
 passes (Look id k ∷ es) taken us n h = go (has k (map key_of taken)) refl us h (λ taken us h. passes es taken us n h)
   where
-    go : (b : Bool) → has k (map key_of taken) ≡ b → (us : List Used) → map key_of us ≡ (if b then fresh (map key_of taken) es else k ∷ fresh (map key_of taken ++ k ∷ []) es) → ((taken us : List Used) → map key_of us ≡ fresh (map key_of taken) es → Passes (state_at taken us (steps_of es) n) es) → Passes (state_at taken us (steps_of es) n) (Look id k ∷ es)
+    go : (b : Bool) → has k (map key_of taken) ≡ b → (us : List Used) → map key_of us ≡ (if b then fresh (map key_of taken) es else k ∷ fresh (map key_of taken ++ k ∷ []) es)
+        → ((taken us : List Used) → map key_of us ≡ fresh (map key_of taken) es → Passes (state_at taken us (steps_of es) n) es) → Passes (state_at taken us (steps_of es) n) (Look id k ∷ es)
     go true e us h rest =
         let p = rest taken us h in
         record { last = p.last; by = then_of _ (λ x. replay x es) (state_at taken us (steps_of es) n) p.last (rw e refl) p.by; no_use = p.no_use; no_step = p.no_step }

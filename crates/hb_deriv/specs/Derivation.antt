@@ -18,9 +18,6 @@ pub record Content : Type 0 where
   pub uses : List Used
   pub steps : List Step
 
-abbrev pub raw_content_of : RawDerivation → Content
-raw_content_of d = record { class = d.class.0; body = d.body.0; declared = d.declared.0; uses = d.uses.items; steps = d.steps.items }
-
 abbrev pub content_of : Derivation → Content
 content_of d = record { class = d.class.0; body = d.body.0; declared = d.declared.0; uses = d.uses.items; steps = d.steps.items }
 

@@ -7,7 +7,8 @@ use Rattle.hb_types.specs.Types.{is_below, join_of, params_of}
 use Rattle.hb_types.specs.Variables.{Variables, variable, get, set, join, keeps}
 use Rattle.hb_tree.specs.declared.node.Op.{Op}
 use Rattle.hb_tree.specs.declared.node.Op.TheVariants as op
-use Rattle.hb_tree.specs.Tree.{Tree, TNil, TTrue, TFalse, TSelf, TInt, TText, TVar, TNew, TAssign, TPrint, TToStr, TNot, TBinary, TIf, TWhile, TCall, TDef, TDefComputed, TDeclare, TDeclareComputed, TBlock, Forest, NoTree, Trees, id_of}
+use Rattle.hb_tree.specs.Tree.{Tree, TNil, TTrue, TFalse, TSelf, TInt, TText, TVar, TNew, TAssign, TPrint, TToStr, TNot, TBinary, TIf, TWhile, TCall, TDef, TDefComputed}
+use Rattle.hb_tree.specs.Tree.{TDeclare, TDeclareComputed, TBlock, Forest, NoTree, Trees, id_of}
 use Rattle.hb_deriv.specs.declared.ill.Ill.{Ill}
 use Rattle.hb_deriv.specs.declared.ill.Reason.{Reason}
 use Rattle.hb_deriv.specs.declared.ill.Reason.TheVariants as reason

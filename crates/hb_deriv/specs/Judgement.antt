@@ -7,7 +7,8 @@ use Rattle.hb_types.specs.declared.types.MethodTy.{MethodTy}
 use Rattle.hb_types.specs.Types.{is_below, join_of, params_of}
 use Rattle.hb_types.specs.Variables.{Variables, get, set, join, keeps}
 use Rattle.hb_tree.specs.declared.node.Op.{Op}
-use Rattle.hb_tree.specs.Tree.{Tree, TNil, TTrue, TFalse, TSelf, TInt, TText, TVar, TNew, TAssign, TPrint, TToStr, TNot, TBinary, TIf, TWhile, TCall, TDef, TDefComputed, TDeclare, TDeclareComputed, TBlock, Forest, NoTree, Trees}
+use Rattle.hb_tree.specs.Tree.{Tree, TNil, TTrue, TFalse, TSelf, TInt, TText, TVar, TNew, TAssign, TPrint, TToStr, TNot, TBinary, TIf, TWhile, TCall, TDef, TDefComputed}
+use Rattle.hb_tree.specs.Tree.{TDeclare, TDeclareComputed, TBlock, Forest, NoTree, Trees}
 use Rattle.hb_deriv.specs.Judge.{Types, object, operand_limit, operator_type, declaration_type, all_below, Subject, variables_of}
 
 mutual
@@ -25,16 +26,20 @@ mutual
     JudgedPrint : {G G1 : Variables} {id : ℕ} {e : Tree} {t : Ty} → Judged types self G e G1 t → Judged types self G (TPrint id e) G1 ty.Nil
     JudgedToStr : {G G1 : Variables} {id : ℕ} {e : Tree} {t : Ty} → Judged types self G e G1 t → Judged types self G (TToStr id e) G1 ty.Str
     JudgedNot : {G G1 : Variables} {id : ℕ} {e : Tree} {t : Ty} → Judged types self G e G1 t → Judged types self G (TNot id e) G1 ty.Bool
-    JudgedBinary : {G G1 G2 : Variables} {id : ℕ} {o : Op} {a b : Tree} {s t : Ty} → Judged types self G a G1 s → Judged types self G1 b G2 t → is_below s (operand_limit o) ≡ true → is_below t (operand_limit o) ≡ true → Judged types self G (TBinary id o a b) G2 (operator_type o)
-    JudgedIf : {G G1 Ga Gb : Variables} {id : ℕ} {c a b : Tree} {r s t : Ty} → Judged types self G c G1 r → Judged types self G1 a Ga s → Judged types self G1 b Gb t → Judged types self G (TIf id c a b) (join Ga Gb) (join_of s t)
+    JudgedBinary : {G G1 G2 : Variables} {id : ℕ} {o : Op} {a b : Tree} {s t : Ty} → Judged types self G a G1 s → Judged types self G1 b G2 t → is_below s (operand_limit o) ≡ true
+        → is_below t (operand_limit o) ≡ true → Judged types self G (TBinary id o a b) G2 (operator_type o)
+    JudgedIf : {G G1 Ga Gb : Variables} {id : ℕ} {c a b : Tree} {r s t : Ty} → Judged types self G c G1 r → Judged types self G1 a Ga s → Judged types self G1 b Gb t
+        → Judged types self G (TIf id c a b) (join Ga Gb) (join_of s t)
     -- the variables before the condition are those that stay below their types
     JudgedWhile : {G G1 G2 : Variables} {id : ℕ} {c b : Tree} {r s : Ty} → Judged types self G c G1 r → Judged types self G1 b G2 s → keeps G G2 ≡ true → Judged types self G (TWhile id c b) G1 ty.Nil
-    JudgedCall : {G G1 G2 : Variables} {id m : ℕ} {c : ClassId} {r : Tree} {args : Forest} {ts : List Ty} {s : MethodTy} → Judged types self G r G1 (ty.Class c) → JudgedArgs types self G1 args [] G2 ts → types (c.0, m) ≡ Some s → length ts ≡ s.count → all_below ts (params_of s) ≡ true → Judged types self G (TCall id r m args) G2 s.result
+    JudgedCall : {G G1 G2 : Variables} {id m : ℕ} {c : ClassId} {r : Tree} {args : Forest} {ts : List Ty} {s : MethodTy} → Judged types self G r G1 (ty.Class c)
+        → JudgedArgs types self G1 args [] G2 ts → types (c.0, m) ≡ Some s → length ts ≡ s.count → all_below ts (params_of s) ≡ true → Judged types self G (TCall id r m args) G2 s.result
     -- the block of an inner definition is not judged
     JudgedDef : {G : Variables} {id c m s : ℕ} {b : Tree} → Judged types self G (TDef id c m s b) G ty.Nil
     JudgedDefComputed : {G G1 : Variables} {id c s : ℕ} {e b : Tree} {t : Ty} → Judged types self G e G1 t → is_below t ty.Str ≡ true → Judged types self G (TDefComputed id c e s b) G1 ty.Nil
     JudgedDeclare : {G : Variables} {id c m s : ℕ} {asks : Bool} → Judged types self G (TDeclare id c m s asks) G (declaration_type asks)
-    JudgedDeclareComputed : {G G1 : Variables} {id c s : ℕ} {asks : Bool} {e : Tree} {t : Ty} → Judged types self G e G1 t → is_below t ty.Str ≡ true → Judged types self G (TDeclareComputed id c e s asks) G1 (declaration_type asks)
+    JudgedDeclareComputed : {G G1 : Variables} {id c s : ℕ} {asks : Bool} {e : Tree} {t : Ty} → Judged types self G e G1 t → is_below t ty.Str ≡ true
+        → Judged types self G (TDeclareComputed id c e s asks) G1 (declaration_type asks)
     JudgedBlock : {G G1 : Variables} {id : ℕ} {es : Forest} {t : Ty} → JudgedItems types self G es ty.Nil G1 t → Judged types self G (TBlock id es) G1 t
 
   -- the items of a block, behind one of a type
