@@ -161,7 +161,8 @@ module _ (t : Table) (class body declared : ℕ) (b : Body) (m : MethodTy) (body
   unfolding ◌>>=◌
   body_ends types r count e = body_judge types count ∙ ap (λ (v : Verdict Typed). v >>= ended subject) e
 
-  pub answers_result : {new : State} (G : Variables) (ty : Ty) → has_count subject ≡ true → is_below ty m.result ≡ false → Block new (Ok (G, ty)) → Answers t class body declared new.answers new.refused (Ok (checked.Bad (record { node = b.block; reason = reason.Result })))
+  pub answers_result : {new : State} (G : Variables) (ty : Ty) → has_count subject ≡ true → is_below ty m.result ≡ false → Block new (Ok (G, ty))
+      → Answers t class body declared new.answers new.refused (Ok (checked.Bad (record { node = b.block; reason = reason.Result })))
   answers_result {new} G ty count above a = record {
     subject = subject;
     subject_is = subject_is;

@@ -71,7 +71,8 @@ present : (uses : List Used) (k : Key) (site : TypeSite) → site_among uses k �
 present [] k site h = absurd (cc)
 present (u ∷ uses) k site h = go (same_key (key_of u) k) h (present uses k site)
   where
-    go : (b : Bool) → (if b then Some u.site else site_among uses k) ≡ Some site → (site_among uses k ≡ Some site → has k (map key_asked (map answer_of uses)) ≡ true) → b || has k (map key_asked (map answer_of uses)) ≡ true
+    go : (b : Bool) → (if b then Some u.site else site_among uses k) ≡ Some site → (site_among uses k ≡ Some site → has k (map key_asked (map answer_of uses)) ≡ true)
+        → b || has k (map key_asked (map answer_of uses)) ≡ true
     go true h rest = refl
     go false h rest = rest h
 
@@ -82,7 +83,8 @@ answered declared (u ∷ uses) k site h agrees = go (same_key (key_of u) k) refl
     is : (s : Option TypeSite) → s ≡ Some site → s ≡ Some u.site → u.site.0 ≡ site.0
     is s e f = cc
 
-    go : (b : Bool) → same_key (key_of u) k ≡ b → (if b then Some u.site else site_among uses k) ≡ Some site → (site_among uses k ≡ Some site → Agrees (map answer_of uses) declared → declared k ≡ Some site.0) → declared k ≡ Some site.0
+    go : (b : Bool) → same_key (key_of u) k ≡ b → (if b then Some u.site else site_among uses k) ≡ Some site
+        → (site_among uses k ≡ Some site → Agrees (map answer_of uses) declared → declared k ≡ Some site.0) → declared k ≡ Some site.0
     go true same h rest =
         subst (λ (j : Key). declared j ≡ Some site.0) (key_same (key_of u) k same)
         (agrees.0 ∙ ap (λ (n : ℕ). let o : Option ℕ = Some n in o) (is (Some u.site) h refl))
@@ -201,7 +203,8 @@ module _ (sites : Sites) (G : Variables) (node : NodeId) (class : ClassId) (name
       new : State
       new = st (answers ++ asked class name (Some site) ∷ []) None (uses ++ used class name site ∷ []) steps
 
-      leaves : (result : Result MethodTy Stop) → IsVerdict (with_type node.0 G (sites site.0)) (with_variables G result) → IsSound (st answers None uses steps) → has k seen ≡ false → Leaves (names_of G ++ []) new (with_variables G result)
+      leaves : (result : Result MethodTy Stop) → IsVerdict (with_type node.0 G (sites site.0)) (with_variables G result) → IsSound (st answers None uses steps) → has k seen ≡ false
+          → Leaves (names_of G ++ []) new (with_variables G result)
       leaves (Ok m) is sound apart = (
         record { none_refused = refl; once = still_once _ sound apart (one_answered (Some site)); used = uses_more site sound.used },
         within_left (names_of G) [],

@@ -76,7 +76,8 @@ absent_apart : (x : ℕ) (names : List ℕ) → is_member nat_eq names x ≡ fal
 absent_apart x [] h = tt
 absent_apart x (y ∷ names) h = go (nat_eq x y) refl h (absent_apart x names)
   where
-    go : (b : Bool) → nat_eq x y ≡ b → b || is_member nat_eq names x ≡ false → (is_member nat_eq names x ≡ false → AllByRecursion (λ y. nat_eq x y ≡ false) names) → (nat_eq x y ≡ false) × AllByRecursion (λ y. nat_eq x y ≡ false) names
+    go : (b : Bool) → nat_eq x y ≡ b → b || is_member nat_eq names x ≡ false → (is_member nat_eq names x ≡ false → AllByRecursion (λ y. nat_eq x y ≡ false) names)
+        → (nat_eq x y ≡ false) × AllByRecursion (λ y. nat_eq x y ≡ false) names
     go true e h rest = absurd (cc)
     go false e h rest = (e, rest h)
 

@@ -37,7 +37,8 @@ apart_from : (G : Variables) (x : ℕ) → has_name G x ≡ false → AllByRecur
 apart_from [] x h = tt
 apart_from (v ∷ G) x h = go (nat_eq v.0.0 x) refl h (apart_from G x)
   where
-    go : (b : Bool) → nat_eq v.0.0 x ≡ b → b || has_name G x ≡ false → (has_name G x ≡ false → AllByRecursion (λ y. nat_eq x y ≡ false) (names_of G)) → (nat_eq x v.0.0 ≡ false) × AllByRecursion (λ y. nat_eq x y ≡ false) (names_of G)
+    go : (b : Bool) → nat_eq v.0.0 x ≡ b → b || has_name G x ≡ false → (has_name G x ≡ false → AllByRecursion (λ y. nat_eq x y ≡ false) (names_of G))
+        → (nat_eq x v.0.0 ≡ false) × AllByRecursion (λ y. nat_eq x y ≡ false) (names_of G)
     go true e h rest = absurd (cc)
     go false e h rest = (nat_eq_equiv.symm x v.0.0 ∙ e, rest h)
 
@@ -74,17 +75,6 @@ names_set (v ∷ G) x t = go (nat_eq v.0.0 x) refl (names_set G x t)
         (within_left (v.0.0 ∷ []) (names_of G ++ x ∷ []))
         (λ y h. within_right (v.0.0 ∷ []) (names_of G ++ x ∷ []) y (rest y h))
 
-pub names_join : (G others : Variables) → Within (names_of (join G others)) (names_of G)
-names_join [] others = within_itself []
-names_join (v ∷ G) others = go (get others v.0.0) (names_join G others)
-  where
-    go : (o : Option Ty) → Within (names_of (join G others)) (names_of G) → Within (names_of (joined v o (join G others))) (v.0.0 ∷ names_of G)
-    go None rest = λ y h. within_right (v.0.0 ∷ []) (names_of G) y (rest y h)
-    go (Some t) rest = within_both (v.0.0 ∷ []) (names_of (join G others)) (v.0.0 ∷ names_of G)
-        (within_left (v.0.0 ∷ []) (names_of G))
-        (λ y h. within_right (v.0.0 ∷ []) (names_of G) y (rest y h))
-
--- a name of both is one of the second
 member_of : (G : Variables) (x : ℕ) (t : Ty) → get G x ≡ Some t → is_member nat_eq (names_of G) x ≡ true
 member_of [] x t h = absurd (cc)
 member_of (v ∷ G) x t h = go (nat_eq v.0.0 x) refl h (member_of G x t)
@@ -195,29 +185,21 @@ forest_none part ids i h = ap (forest_at part) (drop_of_length-le ids h)
 -- a call looks for the method, and then its rule concludes
 pub call_split : (types : Types) (id m : ℕ) (G : Variables) (t : Ty) (args : List Ty) → call_type types id m G t args ≡ (method_of types id m G t >>= (λ r. called id r.0 args (Some r.1)))
 unfolding ◌>>=◌
-call_split types id m G ty.Nil args = refl
-call_split types id m G ty.Bool args = refl
-call_split types id m G ty.Int args = refl
-call_split types id m G ty.Str args = refl
-call_split types id m G ty.Any args = refl
 call_split types id m G (ty.Class c) args = go (types (c.0, m))
   where
     go : (o : Option MethodTy) → called id G args o ≡ (with_type id G o >>= (λ r. called id r.0 args (Some r.1)))
     go None = refl
     go (Some s) = refl
+call_split _ _ _ _ _ _ = refl
 
 pub call_events : (types : Types) (id m : ℕ) (G : Variables) (t : Ty) (args : List Ty) → done id (call_type types id m G t args) ≡ behind (method_of types id m G t) (λ r. done id (called id r.0 args (Some r.1)))
 unfolding ◌>>=◌ behind
-call_events types id m G ty.Nil args = refl
-call_events types id m G ty.Bool args = refl
-call_events types id m G ty.Int args = refl
-call_events types id m G ty.Str args = refl
-call_events types id m G ty.Any args = refl
 call_events types id m G (ty.Class c) args = go (types (c.0, m))
   where
     go : (o : Option MethodTy) → done id (called id G args o) ≡ behind (with_type id G o) (λ r. done id (called id r.0 args (Some r.1)))
     go None = refl
     go (Some s) = refl
+call_events _ _ _ _ _ _ = refl
 
 pub within_turned : (x : ℕ) (names : List ℕ) → Within (names ++ x ∷ []) (x ∷ names)
 within_turned x names = within_both names (x ∷ []) (x ∷ names) (within_right (x ∷ []) names) (within_left (x ∷ []) names)
@@ -226,18 +208,14 @@ within_turned x names = within_both names (x ∷ []) (x ∷ names) (within_right
 pub within_set : (G : Variables) (x : ℕ) (t : Ty) → Within (names_of (set G x t) ++ []) (names_of G ++ x ∷ [])
 within_set G x t y h = names_set G x t y (subst (λ names. is_member nat_eq names y ≡ true) (append-nil (names_of (set G x t))) h)
 
--- what is joined, or begins a branch, has names that were there or assigned
-pub within_joined : (G others H : Variables) (A : List ℕ) → Within (names_of G) (names_of H ++ A) → Within (names_of (join G others)) (names_of H ++ A)
-within_joined G others H A w y h = w y (names_join G others y h)
-
--- three lists of names
 pub runs_grouped : {X : Type 0} {sites : Sites} {v : Types → Verdict (Variables × X)} {es : Types → Events} (A B C : List ℕ) {G : Variables} {old new : State} {result : Result (Variables × X) Stop}
     → Runs sites v es (A ++ (B ++ C)) G old new result → Runs sites v es ((A ++ B) ++ C) G old new result
 runs_grouped {sites = sites} {v} {es} A B C {G} {old} {new} {result} a = subst (λ names. Runs sites v es names G old new result) (sym (append_assoc A B C)) a
 
 -- a call's last part, as the method that is looked for and its rule
 pub call_parts : {sites : Sites} {A : List ℕ} {H : Variables} {old new : State} {result : Result Typed Stop} (id m : ℕ) (G : Variables) (t : Ty) (args : List Ty)
-    → Runs sites (λ types. method_of types id m G t >>= (λ r. called id r.0 args (Some r.1))) (λ types. look_at id (keys_of t m) ++ behind (method_of types id m G t) (λ r. done id (called id r.0 args (Some r.1)))) A H old new result
+    → Runs sites (λ types. method_of types id m G t >>= (λ r. called id r.0 args (Some r.1)))
+        (λ types. look_at id (keys_of t m) ++ behind (method_of types id m G t) (λ r. done id (called id r.0 args (Some r.1)))) A H old new result
     → Runs sites (λ types. call_type types id m G t args) (λ types. look_at id (keys_of t m) ++ done id (call_type types id m G t args)) A H old new result
 call_parts id m G t args a = runs_alike
     (λ types. method_of types id m G t >>= (λ r. called id r.0 args (Some r.1))) (λ types. call_type types id m G t args)

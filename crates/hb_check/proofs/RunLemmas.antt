@@ -71,10 +71,6 @@ logged_none {es} {old} {new} h = subst (λ (fs : Events). HasLogged fs old new) 
 pub within_itself : (names : List ℕ) → Within names names
 within_itself names x h = h
 
-member_or : (a b : Bool) → a || b ≡ true → (a ≡ true → ⊥) → b ≡ true
-member_or true b h none = absurd (none refl)
-member_or false b h none = h
-
 pub within_left : (names more : List ℕ) → Within names (names ++ more)
 within_left [] more x h = absurd (cc)
 within_left (y ∷ names) more x h = go (nat_eq x y) (within_left names more x) h
@@ -95,7 +91,8 @@ pub within_both : (names more others : List ℕ) → Within names others → Wit
 within_both [] more others h k x i = k x i
 within_both (y ∷ names) more others h k x i = go (nat_eq x y) (λ j. h x j) (within_both names more others (λ z j. h z (within_right (y ∷ []) names z j)) k x) i
   where
-    go : (b : Bool) → (b || is_member nat_eq names x ≡ true → is_member nat_eq others x ≡ true) → (is_member nat_eq (names ++ more) x ≡ true → is_member nat_eq others x ≡ true) → b || is_member nat_eq (names ++ more) x ≡ true → is_member nat_eq others x ≡ true
+    go : (b : Bool) → (b || is_member nat_eq names x ≡ true → is_member nat_eq others x ≡ true) → (is_member nat_eq (names ++ more) x ≡ true → is_member nat_eq others x ≡ true)
+        → b || is_member nat_eq (names ++ more) x ≡ true → is_member nat_eq others x ≡ true
     go true first rest i = first refl
     go false first rest i = rest i
 
@@ -116,7 +113,8 @@ leaves_wider names others new (Err (stop.Ill i)) w h = h
 leaves_wider names others new (Err (stop.Look cause)) w h = h
 leaves_wider names others new (Err stop.Full) w h = λ room. h (λ some apart within. room some apart (λ x i. w x (within x i)))
 
-comes_behind : {X : Type 0} (verdict : Verdict (Variables × X)) (es fs : Events) (old mid new : State) (result : Result (Variables × X) Stop) → HasLogged es old mid → Comes verdict fs mid new result → Comes verdict (es ++ fs) old new result
+comes_behind : {X : Type 0} (verdict : Verdict (Variables × X)) (es fs : Events) (old mid new : State) (result : Result (Variables × X) Stop) → HasLogged es old mid
+    → Comes verdict fs mid new result → Comes verdict (es ++ fs) old new result
 comes_behind verdict es fs old mid new (Ok r) h k = (k.0, logged_both h k.1)
 comes_behind verdict es fs old mid new (Err (stop.Ill i)) h k = (k.0, logged_both h k.1)
 comes_behind verdict es fs old mid new (Err (stop.Look cause)) h k = front_both h k
@@ -267,32 +265,6 @@ runs_ill sites A G s i = record {
   };
 }
 
--- an expression is finished with a type
-pub runs_done : (sites : Sites) (G : Variables) (id : ℕ) (t : Ty) (answers : List Asked) (refused : Option Refusal) (uses uses2 : List Used) (steps steps2 : List Step)
-    → uses2 ≡ uses → steps2 ≡ steps ++ step id t ∷ []
-    → Runs sites (λ types. Ok (G, t)) (λ types. Done id t ∷ []) [] G (record { answers = answers; refused = refused; uses = uses; steps = steps }) (record { answers = answers; refused = refused; uses = uses2; steps = steps2 }) (Ok (G, t))
-runs_done sites G id t answers refused uses uses2 steps steps2 same noted = record {
-  ran = λ sound. record {
-    more = [];
-    grows = sym (append-nil answers);
-    leaves = (record { none_refused = sound.none_refused; once = sound.once; used = subst (λ (us : List Used). answers ≡ map answer_of us) (sym same) sound.used }, within_left (names_of G) []);
-    comes = λ declared agrees. (refl, record { keys = sym (append-nil (keys_asked answers refused)); steps = noted });
-  };
-}
-
--- memory ran out, and no further key was asked
-pub runs_out : {X : Type 0} (sites : Sites) (v : Types → Verdict (Variables × X)) (es : Types → Events) (A : List ℕ) (G : Variables) (answers : List Asked) (refused : Option Refusal) (uses uses2 : List Used) (steps steps2 : List Step)
-    → Runs sites v es A G (record { answers = answers; refused = refused; uses = uses; steps = steps }) (record { answers = answers; refused = refused; uses = uses2; steps = steps2 }) (let x : Result (Variables × X) Stop = Err (stop.Look look.NoMemory) in x)
-runs_out sites v es A G answers refused uses uses2 steps steps2 = record {
-  ran = λ sound. record {
-    more = [];
-    grows = sym (append-nil answers);
-    leaves = (subst (λ (r : Option Refusal). IsCause look.NoMemory r) (sym sound.none_refused) refl, sound.once);
-    comes = λ declared agrees. record { rest = fresh (keys_asked answers refused) (es (types_in sites declared)); front = refl };
-  };
-}
-
--- a rule that gives a type is done with the finished expression
 pub runs_given : {sites : Sites} {G : Variables} {id : ℕ} {t : Ty} {old new : State} {result : Result Typed Stop} (verdict : Result Ty Reason)
     → verdict ≡ Ok t → Runs sites (λ types. Ok (G, t)) (λ types. Done id t ∷ []) [] G old new result
     → Runs sites (λ types. concluded id G verdict) (λ types. done id (concluded id G verdict)) [] G old new result
@@ -304,4 +276,5 @@ pub runs_denied : (sites : Sites) (G : Variables) (s : State) (id : NodeId) (r :
     → verdict ≡ Err r
     → Runs sites (λ types. concluded id.0 G verdict) (λ types. done id.0 (concluded id.0 G verdict)) [] G s s (Err (stop.Ill (record { node = id; reason = r })))
 unfolding behind
-runs_denied sites G s id r verdict e = subst (λ x. Runs sites (λ types. concluded id.0 G x) (λ types. done id.0 (concluded id.0 G x)) [] G s s (Err (stop.Ill (record { node = id; reason = r })))) (sym e) (runs_ill sites [] G s (record { node = id; reason = r }))
+runs_denied sites G s id r verdict e = subst (λ x. Runs sites (λ types. concluded id.0 G x) (λ types. done id.0 (concluded id.0 G x)) [] G s s (Err (stop.Ill (record { node = id; reason = r }))))
+    (sym e) (runs_ill sites [] G s (record { node = id; reason = r }))

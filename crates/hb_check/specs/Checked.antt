@@ -40,4 +40,5 @@ ChecksMethod t self id (method.Named c x) ty G old new result =
     Runs (sites_of t) (λ types. Ok (G, ty)) (λ types. Done id ty ∷ []) [] G old new result
 ChecksMethod t self id (method.Computed c e) ty G old new result =
     let name = tree_at t e.0 in
-    Runs (sites_of t) (λ types. judge types self name G >>= (λ r. named id r.0 r.1 ty)) (λ types. events types self name G ++ behind (judge types self name G) (λ r. done id (named id r.0 r.1 ty))) (names_assigned_in name) G old new result
+    Runs (sites_of t) (λ types. judge types self name G >>= (λ r. named id r.0 r.1 ty))
+        (λ types. events types self name G ++ behind (judge types self name G) (λ r. done id (named id r.0 r.1 ty))) (names_assigned_in name) G old new result

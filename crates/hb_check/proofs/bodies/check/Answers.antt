@@ -16,7 +16,8 @@ returns-in-Err-Ill-clause-answers g c =
     let same = count_same c.body-given.result.params c.body-given.result.count c.type_of-ty.result.count (omega (arith, params.places, params.few)) c.if-given-ty.false in
     let block = block_ran c.args.prog.now c.args.class.0 c.args.body.0 c.args.declared.0 c.body-given.result c.type_of-ty.result c.body-given.ensures.value c.type_of-ty.ensures.value
     (rw (c.requires.unanswered, c.requires.unrefused, c.new-notes.ensures.uses, c.new-notes.ensures.steps) refl) c.parameters-env.ensures (rw c.in-Err-Ill.field-0-is at c.in-Err-Ill.ensures.checks) in
-    rw c.in-Err-Ill.ill-is (answers_ill c.args.prog.now c.args.class.0 c.args.body.0 c.args.declared.0 c.body-given.result c.type_of-ty.result c.body-given.ensures.value c.type_of-ty.ensures.value c.in-Err-Ill.ill same block)
+    rw c.in-Err-Ill.ill-is (answers_ill c.args.prog.now c.args.class.0 c.args.body.0 c.args.declared.0 c.body-given.result c.type_of-ty.result c.body-given.ensures.value
+        c.type_of-ty.ensures.value c.in-Err-Ill.ill same block)
 
 pub returns-in-Err-Look-clause-answers : goal.returns-in-Err-Look-clause-answers
 returns-in-Err-Look-clause-answers g c =
@@ -24,7 +25,8 @@ returns-in-Err-Look-clause-answers g c =
     let same = count_same c.body-given.result.params c.body-given.result.count c.type_of-ty.result.count (omega (arith, params.places, params.few)) c.if-given-ty.false in
     let block = block_ran c.args.prog.now c.args.class.0 c.args.body.0 c.args.declared.0 c.body-given.result c.type_of-ty.result c.body-given.ensures.value c.type_of-ty.ensures.value
     (rw (c.requires.unanswered, c.requires.unrefused, c.new-notes.ensures.uses, c.new-notes.ensures.steps) refl) c.parameters-env.ensures (rw c.in-Err-Look.field-0-is at c.in-Err-Look.ensures.checks) in
-    rw c.in-Err-Look.cause-is (answers_look c.args.prog.now c.args.class.0 c.args.body.0 c.args.declared.0 c.body-given.result c.type_of-ty.result c.body-given.ensures.value c.type_of-ty.ensures.value c.in-Err-Look.cause same block)
+    rw c.in-Err-Look.cause-is (answers_look c.args.prog.now c.args.class.0 c.args.body.0 c.args.declared.0 c.body-given.result c.type_of-ty.result c.body-given.ensures.value
+        c.type_of-ty.ensures.value c.in-Err-Look.cause same block)
 
 pub unreachable-requires : goal.unreachable-requires
 unreachable-requires g c =
@@ -38,7 +40,8 @@ returns-then-below-clause-answers g c =
     let same = count_same c.body-given.result.params c.body-given.result.count c.type_of-ty.result.count (omega (arith, params.places, params.few)) c.if-given-ty.false in
     let block = block_ran c.args.prog.now c.args.class.0 c.args.body.0 c.args.declared.0 c.body-given.result c.type_of-ty.result c.body-given.ensures.value c.type_of-ty.ensures.value
     (rw (c.requires.unanswered, c.requires.unrefused, c.new-notes.ensures.uses, c.new-notes.ensures.steps) refl) c.parameters-env.ensures c.in-Ok.ensures.checks in
-    answers_good c.args.prog.now c.args.class.0 c.args.body.0 c.args.declared.0 c.body-given.result c.type_of-ty.result c.body-given.ensures.value c.type_of-ty.ensures.value _ _ _ _ same (sym c.if-below.ensures.computed) block refl refl refl refl refl
+    answers_good c.args.prog.now c.args.class.0 c.args.body.0 c.args.declared.0 c.body-given.result c.type_of-ty.result c.body-given.ensures.value c.type_of-ty.ensures.value _ _ _ _ same
+        (sym c.if-below.ensures.computed) block refl refl refl refl refl
 
 pub returns-in-Ok-clause-answers : goal.returns-in-Ok-clause-answers
 returns-in-Ok-clause-answers g c =
@@ -46,4 +49,5 @@ returns-in-Ok-clause-answers g c =
     let same = count_same c.body-given.result.params c.body-given.result.count c.type_of-ty.result.count (omega (arith, params.places, params.few)) c.if-given-ty.false in
     let block = block_ran c.args.prog.now c.args.class.0 c.args.body.0 c.args.declared.0 c.body-given.result c.type_of-ty.result c.body-given.ensures.value c.type_of-ty.ensures.value
     (rw (c.requires.unanswered, c.requires.unrefused, c.new-notes.ensures.uses, c.new-notes.ensures.steps) refl) c.parameters-env.ensures c.in-Ok.ensures.checks in
-    rw c.bad-else-below.ensures (answers_result c.args.prog.now c.args.class.0 c.args.body.0 c.args.declared.0 c.body-given.result c.type_of-ty.result c.body-given.ensures.value c.type_of-ty.ensures.value _ _ same (sym c.if-below.ensures.computed) block)
+    rw c.bad-else-below.ensures (answers_result c.args.prog.now c.args.class.0 c.args.body.0 c.args.declared.0 c.body-given.result c.type_of-ty.result c.body-given.ensures.value
+        c.type_of-ty.ensures.value _ _ same (sym c.if-below.ensures.computed) block)
