@@ -36,7 +36,8 @@ cache-without kept fewer users key each = cache-less kept fewer users (λ k x e.
     by k x false e = e
 
 -- a check whose key is known takes its place
-pub cache-with : (kept more : List (Option Kept)) (users : Users) (new : Kept) → ((k : ℕ) → kept_at more k ≡ (if new.key.0 == k then Some new else kept_at kept k)) → AreKnown users new.counts.items new.key.0 → IsCache kept users → IsCache more users
+pub cache-with : (kept more : List (Option Kept)) (users : Users) (new : Kept) → ((k : ℕ) → kept_at more k ≡ (if new.key.0 == k then Some new else kept_at kept k))
+    → AreKnown users new.counts.items new.key.0 → IsCache kept users → IsCache more users
 cache-with kept more users new each known w = record {
   own = λ k x e. own k x (new.key.0 == k) refl (sym (each k) ∙ e);
   known = λ k x e. known_too k x (new.key.0 == k) refl (sym (each k) ∙ e);
@@ -81,7 +82,8 @@ using-dropped kept users key k b w known = by (kept_at kept k) refl
     nothing false true = refl
     nothing false false = refl
 
-    other : (x : Kept) → x.key.0 ≢ key → (has_seen x.counts.items key ≡ true → b ≡ true) → (c : Bool) → b ≡ c → (h : Bool) → has_seen x.counts.items key ≡ h → (if c then not_using key (Some x) else Some x) ≡ not_using key (Some x)
+    other : (x : Kept) → x.key.0 ≢ key → (has_seen x.counts.items key ≡ true → b ≡ true) → (c : Bool) → b ≡ c → (h : Bool) → has_seen x.counts.items key ≡ h
+        → (if c then not_using key (Some x) else Some x) ≡ not_using key (Some x)
     other x ne seen true e h is = refl
     other x ne seen false e true is = absurd (true≢false (sym (seen is) ∙ e))
     other x ne seen false e false is = sym (stays x key (uses-other x key ne ∙ is))

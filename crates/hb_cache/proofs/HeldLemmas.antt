@@ -9,21 +9,6 @@ use Rattle.hb_cache.specs.declared.kept.Seen.{Seen}
 use Rattle.hb_cache.specs.Held.{Users, has, has_seen, KeepHad, IsKnown, KeepKnown, AreKnown}
 use Rattle.hb_cache.proofs.KeptLemmas.{get-set, get-set_else}
 
-or-left : (a b : Bool) → a ≡ true → (a || b) ≡ true
-or-left a b e = ap (λ c. c || b) e
-
-or-right : (a b : Bool) → b ≡ true → (a || b) ≡ true
-or-right true b e = refl
-or-right false b e = e
-
--- a key that goes last stands there, and so do those before it
-module _ (keys : List KeyId) (key : KeyId) where
-  pub had-more : KeepHad keys (keys ++ key ∷ [])
-  had-more k e = list_any-append (λ (j : KeyId). j.0 == k) keys (key ∷ []) ∙ or-left (has keys k) (has (key ∷ []) k) e
-
-  pub has-last : has (keys ++ key ∷ []) key.0 ≡ true
-  has-last = list_any-append (λ (j : KeyId). j.0 == key.0) keys (key ∷ []) ∙ or-right (has keys key.0) (has (key ∷ []) key.0) (or-left (key.0 == key.0) false (eq-eqb key.0 key.0 refl))
-
 get-longer : {A : Type 0} (l more : List A) (k : ℕ) (a : A) → slice_get l k ≡ Some a → slice_get (l ++ more) k ≡ Some a
 get-longer [] more k a e = absurd cc
 get-longer (x ∷ l) more zero a e = e

@@ -4,8 +4,7 @@ use Rattle.std.specs.Prelude.{slice_get, is_some}
 use Rattle.std.specs.List.{AllByRecursion, FoldsTo}
 use Rattle.std.specs.Option.{option_flatten}
 use Rattle.std.proofs.lemmas.Bool.{eqb-true, eqb-false}
-use Rattle.hb_cache.specs.declared.kept.Seen.{Seen}
-use Rattle.hb_cache.specs.declared.kept.Kept.{Kept}
+use Rattle.hb_cache.specs.declared.{kept.Seen.Seen, kept.Kept.Kept}
 use Rattle.hb_cache.specs.Kept.{count_in, kept_at}
 use Rattle.hb_cache.specs.Held.{has_seen}
 
@@ -40,11 +39,9 @@ get-set (x ∷ l) zero a w = refl
 get-set (x ∷ l) (suc i) a w = get-set l i a (omega arith)
 
 pub get-set_else : {A : Type 0} (l : List A) (i k : ℕ) (a : A) → i ≢ k → slice_get (set l i a) k ≡ slice_get l k
-get-set_else [] i k a ne = refl
 get-set_else (x ∷ l) zero zero a ne = absurd (ne refl)
-get-set_else (x ∷ l) zero (suc k) a ne = refl
-get-set_else (x ∷ l) (suc i) zero a ne = refl
 get-set_else (x ∷ l) (suc i) (suc k) a ne = get-set_else l i k a (λ e. ne (ap suc e))
+get-set_else _ _ _ _ _ = refl
 
 -- what is kept after a write at a place
 pub kept_at-set : (l : List (Option Kept)) (i : ℕ) (o : Option Kept) → i < length l → (k : ℕ) → kept_at (set l i o) k ≡ (if i == k then o else kept_at l k)

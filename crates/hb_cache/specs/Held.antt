@@ -3,8 +3,7 @@ use Rattle.std.specs.Prelude.{◌≡◌, ℕ, ◌==◌, Bool, true, List, slice_
 use Rattle.std.specs.List.{list_any}
 use Rattle.std.specs.Global.{Vec}
 use Rattle.hb_types.specs.declared.ids.KeyId.{KeyId}
-use Rattle.hb_cache.specs.declared.kept.Seen.{Seen}
-use Rattle.hb_cache.specs.declared.kept.Kept.{Kept}
+use Rattle.hb_cache.specs.declared.{kept.Seen.Seen, kept.Kept.Kept}
 use Rattle.hb_cache.specs.Kept.{kept_at}
 
 -- for each key, a list of those that may have used it

@@ -1,8 +1,7 @@
 -- The checks that a cache keeps, and what they say.
 use Rattle.std.specs.Prelude.{ℕ, ◌==◌, Bool, List, [], ◌∷◌, length, slice_get, Option, Some, None, is_some, if◌then◌else◌}
 use Rattle.std.specs.Option.{option_map, option_flatten}
-use Rattle.hb_cache.specs.declared.kept.Seen.{Seen}
-use Rattle.hb_cache.specs.declared.kept.Kept.{Kept}
+use Rattle.hb_cache.specs.declared.{kept.Seen.Seen, kept.Kept.Kept}
 use Rattle.hb_cache.specs.Cache.{Item, Items}
 
 -- what the first hold of a key found among these
