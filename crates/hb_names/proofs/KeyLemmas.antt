@@ -1,5 +1,6 @@
 -- Names that are what the keys of a set say.
-use Rattle.std.proofs.Common.{◌≡◌, ℕ, suc, ◌+◌, ◌<◌, ◌≤◌, ◌↔◌, ◌⊎◌, inl, inr, Bool, true, false, cond, not, ◌||◌, if◌then◌else◌, List, [], ◌∷◌, ◌++◌, map, length, Option, Some, None, refl, sym, ap, subst, ◌∙◌, arith, position, true≢false}
+use Rattle.std.proofs.Common.{◌≡◌, ℕ, suc, ◌+◌, ◌<◌, ◌≤◌, ◌↔◌, ◌⊎◌, inl, inr, Bool, true, false, cond, not, ◌||◌, if◌then◌else◌, List, [], ◌∷◌, ◌++◌, map, length, Option, Some}
+use Rattle.std.proofs.Common.{None, refl, sym, ap, subst, ◌∙◌, arith, position, true≢false}
 use Rattle.std.specs.Prelude.{slice_get, option_map, nat_lt, is_some}
 use Rattle.std.specs.List.{IsDistinct, list_any, position_or_len}
 use Rattle.std.proofs.lemmas.Bool.{lt-ltb, le-ltb, ltb-true, ltb-false, cases_order}
@@ -27,7 +28,8 @@ past : {X : Type 0} (p : X → Bool) (xs : List X) → position p xs ≡ None �
 past p [] e = refl
 past p (x ∷ xs) e = by (p x) (position p xs) refl (sym (position-cons p x xs) ∙ e) (past p xs)
   where
-    by : (b : Bool) (o : Option ℕ) → position p xs ≡ o → (if b then Some 0 else option_map suc o) ≡ None → (position p xs ≡ None → position_or_len p xs ≡ length xs) → cond (not b) (1 + position_or_len p xs) 0 ≡ suc (length xs)
+    by : (b : Bool) (o : Option ℕ) → position p xs ≡ o → (if b then Some 0 else option_map suc o) ≡ None → (position p xs ≡ None → position_or_len p xs ≡ length xs)
+        → cond (not b) (1 + position_or_len p xs) 0 ≡ suc (length xs)
     by true o s e rest = absurd (none-some 0 (sym e))
     by false None s e rest = let last = rest s in omega arith
     by false (Some j) s e rest = absurd (none-some (suc j) (sym e))
