@@ -18,7 +18,8 @@ same_self : (x : ℕ × ℕ) → same_call x x ≡ true
 same_self x = let a = eq-eqb x.0 x.0 refl in let b = eq-eqb x.1 x.1 refl in rw (a, b) refl
 
 -- after its hold a call holds the key once
-pub held_after : (c : ℕ) (old new : List Entry) (q : CallNo) (key : KeyId) (ty : Rattle.std.specs.Prelude.Option TypeSite) (n : ℕ) → Adds c old new (Hold q key ty n) → times (c, q.0) (spot key.0 old).calls ≡ 0 → times (c, q.0) (spot key.0 new).calls ≡ 1
+pub held_after : (c : ℕ) (old new : List Entry) (q : CallNo) (key : KeyId) (ty : Rattle.std.specs.Prelude.Option TypeSite) (n : ℕ) → Adds c old new (Hold q key ty n)
+    → times (c, q.0) (spot key.0 old).calls ≡ 0 → times (c, q.0) (spot key.0 new).calls ≡ 1
 held_after c old new q key ty n adds none =
     let e : Entry = entry c (Hold q key ty n) in
     let is : spot key.0 new ≡ done c (spot key.0 (old ++ adds.0)) (Hold q key ty n) = ap (spot key.0) adds.1 ∙ (spot_more key.0 (old ++ adds.0) e ∙ turn_here key.0 (spot key.0 (old ++ adds.0)) e refl) in
@@ -33,16 +34,3 @@ none_without x (y ∷ ys) =
       | false ↦ λ ne. (let r = none_without x ys in rw ne (omega (arith, r)))
     ] in seen (same_call x y) refl
 
--- after its free a call does not hold the key
-pub free_after : (c : ℕ) (old new : List Entry) (q : CallNo) (key : KeyId) → Adds c old new (Free q key) → times (c, q.0) (spot key.0 new).calls ≡ 0
-free_after c old new q key adds =
-    let e : Entry = entry c (Free q key) in
-    let is : spot key.0 new ≡ done c (spot key.0 (old ++ adds.0)) (Free q key) = ap (spot key.0) adds.1 ∙ (spot_more key.0 (old ++ adds.0) e ∙ turn_here key.0 (spot key.0 (old ++ adds.0)) e refl) in
-    subst (λ (s : Spot). times (c, q.0) s.calls ≡ 0) (sym is) (none_without (c, q.0) (spot key.0 (old ++ adds.0)).calls)
-
--- as far as its own calls go, a front that grew by an entry is the old one with that entry
-pub adds_own : (k c : ℕ) (old new : List Entry) (act : Act) → Adds c old new act → of_caller c (spot k new).calls ≡ of_caller c (spot k (old ++ entry c act ∷ [])).calls
-adds_own k c old new act adds =
-    let e : Entry = entry c act in
-    own_calls k c new (old ++ e ∷ []) (ap (journal c) adds.1 ∙ (journal_append c (old ++ adds.0) (e ∷ [])
-    ∙ (ap (λ w. w ++ journal c (e ∷ [])) (journal_append c old adds.0 ∙ (ap (λ w. journal c old ++ w) adds.2 ∙ append-nil (journal c old))) ∙ sym (journal_append c old (e ∷ [])))))

@@ -43,28 +43,15 @@ type_apart c q old new key site typed.Done h = adds_apart c q old new (Retype ke
 type_apart c q old new key site (typed.Busy pins) h = adds_apart c q old new (Busy key pins) h refl
 type_apart c q old new key site typed.Worn h = adds_apart c q old new (WornType key) h refl
 
-pub type_prefix : (c : ℕ) (old new : List Entry) (key : KeyId) (site : TypeSite) (answer : TypeAnswer) → TypeAdds c old new key site answer → IsPrefix old new
-type_prefix c old new key site typed.Done h = adds_prefix c old new (Retype key site) h
-type_prefix c old new key site (typed.Busy pins) h = adds_prefix c old new (Busy key pins) h
-type_prefix c old new key site typed.Worn h = adds_prefix c old new (WornType key) h
-
 pub def_apart : (c q : ℕ) (old new : List Entry) (key : KeyId) (site : BodySite) (answer : DefAnswer) → DefAdds c old new key site answer → standing q (acts c new) ≡ standing q (acts c old)
 def_apart c q old new key site defined.Done h = adds_apart c q old new (Define key site) h refl
 def_apart c q old new key site defined.Worn h = adds_apart c q old new (WornDef key) h refl
 
-pub def_prefix : (c : ℕ) (old new : List Entry) (key : KeyId) (site : BodySite) (answer : DefAnswer) → DefAdds c old new key site answer → IsPrefix old new
-def_prefix c old new key site defined.Done h = adds_prefix c old new (Define key site) h
-def_prefix c old new key site defined.Worn h = adds_prefix c old new (WornDef key) h
-
-pub decides_apart : (c p : ℕ) (old new : List Entry) (q : CallNo) (key owner : KeyId) (look : Look) (args : ArgKinds) (v : Verdict) (r : Result (Unit {0}) Look) → Decides c old new q key owner look args v r → standing p (acts c new) ≡ standing p (acts c old)
+pub decides_apart : (c p : ℕ) (old new : List Entry) (q : CallNo) (key owner : KeyId) (look : Look) (args : ArgKinds) (v : Verdict) (r : Result (Unit {0}) Look)
+    → Decides c old new q key owner look args v r → standing p (acts c new) ≡ standing p (acts c old)
 decides_apart c p old new q key owner look args v (Ok _) h = adds_apart c p old new (Call q key look.site args v) (h.0, h.1, h.2) refl
 decides_apart c p old new q key owner look args v (Err newer) h = ap (standing p) (learns_acts c old new h.0)
 
-pub decides_prefix : (c : ℕ) (old new : List Entry) (q : CallNo) (key owner : KeyId) (look : Look) (args : ArgKinds) (v : Verdict) (r : Result (Unit {0}) Look) → Decides c old new q key owner look args v r → IsPrefix old new
-decides_prefix c old new q key owner look args v (Ok _) h = adds_prefix c old new (Call q key look.site args v) (h.0, h.1, h.2)
-decides_prefix c old new q key owner look args v (Err newer) h = learns_prefix c old new h.0
-
--- a hold and a free
 pub adds_stand : (c q : ℕ) (old new : List Entry) (a : Act) → Adds c old new a → standing q (acts c new) ≡ stand_done q (standing q (acts c old)) a
 adds_stand c q old new a h = ap (standing q) (adds_act c old new a h) ∙ standing_append q [] (acts c old) (a ∷ [])
 

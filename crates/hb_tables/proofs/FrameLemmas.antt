@@ -34,7 +34,8 @@ acts_cut c [] [] a back h = absurd (cc)
 acts_cut c [] (f ∷ fs) a back h = absurd (cc)
 acts_cut c (x ∷ xs) front a back h = go (eqb c x.caller.0) refl front h (λ f. acts_cut c xs f a back)
   where
-    go : (b : Bool) → eqb c x.caller.0 ≡ b → (front : List Act) → cond b (x.act ∷ acts c xs) (acts c xs) ≡ front ++ a ∷ back → ((f : List Act) → acts c xs ≡ f ++ a ∷ back → Cut c xs f a back) → Cut c (x ∷ xs) front a back
+    go : (b : Bool) → eqb c x.caller.0 ≡ b → (front : List Act) → cond b (x.act ∷ acts c xs) (acts c xs) ≡ front ++ a ∷ back → ((f : List Act) → acts c xs ≡ f ++ a ∷ back → Cut c xs f a back)
+        → Cut c (x ∷ xs) front a back
     go true e [] h r =
         let same : x.act ≡ a = cc h in
         record { before = []; after = xs; is = ap (λ y. y ∷ xs) (own_entry c x (eqb-true c x.caller.0 e) ∙ ap (entry c) same); first = refl; last = cc h }
@@ -76,12 +77,7 @@ no_free c d q p h = go (eqb c d) refl
 hold_done : (c q d : ℕ) (s : Spot) (a : Act) → (c ≡ d → frees q a ≡ false) → 1 ≤ times (c, q) s.calls → 1 ≤ times (c, q) (done d s a).calls
 hold_done c q d s (Hold p key ty changes) h n = omega arith
 hold_done c q d s (Free p key) h n = let e = times_other (c, q) (d, p.0) s.calls (no_free c d q p.0 h) in omega (arith, e, n)
-hold_done c q d s (Retype key site) h n = n
-hold_done c q d s (Busy key pins) h n = n
-hold_done c q d s (WornType key) h n = n
-hold_done c q d s (Define key site) h n = n
-hold_done c q d s (WornDef key) h n = n
-hold_done c q d s (Call p key site args verdict) h n = n
+hold_done _ _ _ _ _ _ n = n
 
 frees_here : (q k : ℕ) (a : Act) → frees_key q k a ≡ false → k ≡ key_of a → frees q a ≡ false
 frees_here q k (Free p key) h is = go (eqb q p.0) h
@@ -89,13 +85,7 @@ frees_here q k (Free p key) h is = go (eqb q p.0) h
     go : (b : Bool) → (b && eqb k key.0) ≡ false → b ≡ false
     go true h = absurd (let e = eq-eqb k key.0 is in cc)
     go false h = refl
-frees_here q k (Hold p key ty changes) h is = refl
-frees_here q k (Retype key site) h is = refl
-frees_here q k (Busy key pins) h is = refl
-frees_here q k (WornType key) h is = refl
-frees_here q k (Define key site) h is = refl
-frees_here q k (WornDef key) h is = refl
-frees_here q k (Call p key site args verdict) h is = refl
+frees_here _ _ _ _ _ = refl
 
 hold_from : (k c q : ℕ) (s : Spot) (xs : List Entry) → KeepsHold q k (acts c xs) → 1 ≤ times (c, q) s.calls → 1 ≤ times (c, q) (spot_from k s xs).calls
 hold_from k c q s [] h n = n
@@ -108,7 +98,8 @@ hold_from k c q s (x ∷ xs) h n = go (eqb c x.caller.0) refl h (hold_from k c q
         here true e = hold_done c q x.caller.0 s x.act (λ is. frees_here q k x.act (f is) (eqb-true k (key_of x.act) e)) n
         here false e = n
 
-    go : (b : Bool) → eqb c x.caller.0 ≡ b → KeepsHold q k (cond b (x.act ∷ acts c xs) (acts c xs)) → (KeepsHold q k (acts c xs) → 1 ≤ times (c, q) (turn k s x).calls → 1 ≤ times (c, q) (spot_from k (turn k s x) xs).calls) → 1 ≤ times (c, q) (spot_from k (turn k s x) xs).calls
+    go : (b : Bool) → eqb c x.caller.0 ≡ b → KeepsHold q k (cond b (x.act ∷ acts c xs) (acts c xs))
+        → (KeepsHold q k (acts c xs) → 1 ≤ times (c, q) (turn k s x).calls → 1 ≤ times (c, q) (spot_from k (turn k s x) xs).calls) → 1 ≤ times (c, q) (spot_from k (turn k s x) xs).calls
     go true e h r = r h.1 (one (λ _. h.0))
     go false e h r = r h (one (λ is. absurd (let f = eq-eqb c x.caller.0 is in cc)))
 
@@ -146,19 +137,17 @@ pub frame_keeps : (limit k c q : ℕ) (before rest : List Entry) → IsLegal lim
 frame_keeps limit k c q before rest legal live once = hold_keeps limit k c q before rest legal (live_keeps q k (acts c rest) live) (omega (arith, once))
 
 -- in a legal list no Retype of a used key stands within a live frame
-pub no_retype : (limit k c q : ℕ) (before rest after : List Entry) (d : ℕ) (key : KeyId) (site : TypeSite) → IsLegal limit ((before ++ rest) ++ entry d (Retype key site) ∷ after) → StaysLive q (acts c rest) → times (c, q) (spot k before).calls ≡ 1 → key.0 ≡ k → ⊥
+pub no_retype : (limit k c q : ℕ) (before rest after : List Entry) (d : ℕ) (key : KeyId) (site : TypeSite) → IsLegal limit ((before ++ rest) ++ entry d (Retype key site) ∷ after)
+    → StaysLive q (acts c rest) → times (c, q) (spot k before).calls ≡ 1 → key.0 ≡ k → ⊥
 no_retype limit k c q before rest after d key site legal live once is =
     let f = legal (before ++ rest) after (entry d (Retype key site)) refl in
     let n = hold_stays k c q before rest (live_keeps q k (acts c rest) live) (omega (arith, once)) in
     let z : length (spot k (before ++ rest)).calls ≡ 0 = subst (λ j. length (spot j (before ++ rest)).calls ≡ 0) is f.0 in
     let m = times_length (c, q) (spot k (before ++ rest)).calls in omega (arith, z, n, m)
 
-own_first : (c : ℕ) (a : Act) (rest : List Entry) → acts c (entry c a ∷ rest) ≡ a ∷ acts c rest
-own_first c a rest = let e = eq-eqb c c refl in rw e refl
-
--- what a Hold found is so as long as its call does not give the key back
 pub held_since : (limit c : ℕ) (before rest : List Entry) (q : CallNo) (key : KeyId) (ty : Option TypeSite) (n : ℕ) → IsLegal limit (before ++ entry c (Hold q key ty n) ∷ rest) → KeepsHold q.0 key.0 (acts c rest)
-    → ((spot key.0 (before ++ entry c (Hold q key ty n) ∷ rest)).ty ≡ ty) × ((spot key.0 (before ++ entry c (Hold q key ty n) ∷ rest)).changes ≡ n) × (1 ≤ times (c, q.0) (spot key.0 (before ++ entry c (Hold q key ty n) ∷ rest)).calls)
+    → ((spot key.0 (before ++ entry c (Hold q key ty n) ∷ rest)).ty ≡ ty) × ((spot key.0 (before ++ entry c (Hold q key ty n) ∷ rest)).changes ≡ n)
+        × (1 ≤ times (c, q.0) (spot key.0 (before ++ entry c (Hold q key ty n) ∷ rest)).calls)
 held_since limit c before rest q key ty n legal keeps =
     let e : Entry = entry c (Hold q key ty n) in
     let here : List Entry = before ++ e ∷ [] in

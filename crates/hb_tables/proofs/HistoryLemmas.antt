@@ -30,13 +30,6 @@ journal_append c (x ∷ xs) ys =
     let r = journal_append c xs ys in
     elim (eqb c x.caller.0) as (λ b. cond b (x ∷ journal c (xs ++ ys)) (journal c (xs ++ ys)) ≡ cond b (x ∷ journal c xs) (journal c xs) ++ journal c ys) [ true ↦ ap (λ w. x ∷ w) r | false ↦ r ]
 
-pub journal_own : (c : ℕ) (e : Entry) → c ≡ e.caller.0 → journal c (e ∷ []) ≡ e ∷ []
-journal_own c e is = subst (λ b. cond b (e ∷ []) [] ≡ e ∷ []) (sym (eq-eqb c e.caller.0 is)) refl
-
-pub journal_other : (c : ℕ) (e : Entry) → c ≢ e.caller.0 → journal c (e ∷ []) ≡ []
-journal_other c e ne = subst (λ b. cond b (e ∷ []) [] ≡ []) (sym (ne_eqb c e.caller.0 ne)) refl
-
--- a list with an entry behind, cut before an entry: before that one, or earlier
 cut : (log before after : List Entry) (e x : Entry) (F : List Entry → Entry → Type 0) → log ++ e ∷ [] ≡ before ++ x ∷ after
     → F log e → ((rest : List Entry) → log ≡ before ++ x ∷ rest → F before x) → F before x
 cut [] [] after e x F is last early = let h : e ≡ x = cc is in subst (F []) h last
@@ -84,27 +77,18 @@ legal_climb limit = every_climb (Fits limit)
 own_done : (c : ℕ) (s t : Spot) (a : Act) → of_caller c s.calls ≡ of_caller c t.calls → of_caller c (done c s a).calls ≡ of_caller c (done c t a).calls
 own_done c s t (Hold q key ty changes) e = let h = eq-eqb c c refl in rw h (ap (λ w. (c, q.0) ∷ w) e)
 own_done c s t (Free q key) e = own_without c q.0 s.calls ∙ (ap (without (c, q.0)) e ∙ sym (own_without c q.0 t.calls))
-own_done c s t (Retype key site) e = e
-own_done c s t (Busy key pins) e = e
-own_done c s t (WornType key) e = e
-own_done c s t (Define key site) e = e
-own_done c s t (WornDef key) e = e
-own_done c s t (Call q key site args verdict) e = e
+own_done _ _ _ _ e = e
 
 other_done : (c d : ℕ) (s : Spot) (a : Act) → c ≢ d → of_caller c (done d s a).calls ≡ of_caller c s.calls
 other_done c d s (Hold q key ty changes) ne = let h = ne_eqb c d ne in rw h refl
 other_done c d s (Free q key) ne = own_without_other c d q.0 s.calls ne
-other_done c d s (Retype key site) ne = refl
-other_done c d s (Busy key pins) ne = refl
-other_done c d s (WornType key) ne = refl
-other_done c d s (Define key site) ne = refl
-other_done c d s (WornDef key) ne = refl
-other_done c d s (Call q key site args verdict) ne = refl
+other_done _ _ _ _ _ = refl
 
 own_from : (k c : ℕ) (s t : Spot) (xs : List Entry) → of_caller c s.calls ≡ of_caller c t.calls → of_caller c (spot_from k s xs).calls ≡ of_caller c (spot_from k t (journal c xs)).calls
 own_from k c s t [] e = e
 own_from k c s t (x ∷ xs) e = dite (ℕ_discrete c x.caller.0)
-    (λ is. rw (eq-eqb c x.caller.0 is) (own_from k c (turn k s x) (turn k t x) xs (elim (eqb k (key_of x.act)) as (λ b. of_caller c (cond b (done x.caller.0 s x.act) s).calls ≡ of_caller c (cond b (done x.caller.0 t x.act) t).calls) [
+    (λ is. rw (eq-eqb c x.caller.0 is) (own_from k c (turn k s x) (turn k t x) xs
+        (elim (eqb k (key_of x.act)) as (λ b. of_caller c (cond b (done x.caller.0 s x.act) s).calls ≡ of_caller c (cond b (done x.caller.0 t x.act) t).calls) [
       | true ↦ subst (λ d. of_caller c (done d s x.act).calls ≡ of_caller c (done d t x.act).calls) is (own_done c s t x.act e)
       | false ↦ e
     ])))
@@ -129,7 +113,8 @@ sound_done limit c s (Hold q key ty changes) w f = record {
   redefs = w.redefs;
   ty = w.ty;
   body = w.body;
-  few = λ d. dite (ℕ_discrete d c) (λ is. let h = eq-eqb d c is in let n : length (of_caller d s.calls) < HOLDS_MAX = subst (λ z. length (of_caller z s.calls) < HOLDS_MAX) (sym is) f.3 in rw h (omega arith)) (λ ne. let h = ne_eqb d c ne in let n = w.few d in rw h n);
+  few = λ d. dite (ℕ_discrete d c) (λ is. let h = eq-eqb d c is in let n : length (of_caller d s.calls) < HOLDS_MAX = subst (λ z. length (of_caller z s.calls) < HOLDS_MAX) (sym is) f.3 in
+      rw h (omega arith)) (λ ne. let h = ne_eqb d c ne in let n = w.few d in rw h n);
   once = λ x. times_more x (c, q.0) s.calls f.2 (w.once x);
 }
 sound_done limit c s (Free q key) w f = record {
@@ -141,11 +126,8 @@ sound_done limit c s (Free q key) w f = record {
   once = λ x. let n = w.once x in let m = times_without x (c, q.0) s.calls in omega (arith, n, m);
 }
 sound_done limit c s (Retype key site) w f = record { changes = (let h = f.1 in omega arith); redefs = w.redefs; ty = (let h = f.2 in omega arith); body = w.body; few = w.few; once = w.once }
-sound_done limit c s (Busy key pins) w f = w
-sound_done limit c s (WornType key) w f = w
 sound_done limit c s (Define key site) w f = record { changes = w.changes; redefs = (let h = f.0 in omega arith); ty = w.ty; body = (let h = f.1 in omega arith); few = w.few; once = w.once }
-sound_done limit c s (WornDef key) w f = w
-sound_done limit c s (Call q key site args verdict) w f = w
+sound_done _ _ _ _ w _ = w
 
 -- an entry changes the state at its own key alone: what fits there and holds there, holds of each key
 pub spread : (k : ℕ) (log : List Entry) (e : Entry) (P : Spot → Type 0) → (k ≢ key_of e.act → P (spot k log)) → (k ≡ key_of e.act → P (done e.caller.0 (spot (key_of e.act) log) e.act)) → P (spot k (log ++ e ∷ []))
@@ -159,29 +141,18 @@ sound limit log legal = legal_climb limit (λ l. (k : ℕ) → Sound limit (spot
 
 done_redefs : (c : ℕ) (s : Spot) (a : Act) → s.redefs ≤ (done c s a).redefs
 done_redefs c s (Hold q key ty changes) = omega arith
-done_redefs c s (Free q key) = omega arith
-done_redefs c s (Retype key site) = omega arith
-done_redefs c s (Busy key pins) = omega arith
-done_redefs c s (WornType key) = omega arith
-done_redefs c s (Define key site) = omega arith
-done_redefs c s (WornDef key) = omega arith
-done_redefs c s (Call q key site args verdict) = omega arith
+done_redefs c s _ = omega arith
 
 done_body : (c : ℕ) (s : Spot) (a : Act) → (done c s a).redefs ≡ s.redefs → (done c s a).body ≡ s.body
-done_body c s (Hold q key ty changes) e = refl
-done_body c s (Free q key) e = refl
-done_body c s (Retype key site) e = refl
-done_body c s (Busy key pins) e = refl
-done_body c s (WornType key) e = refl
 done_body c s (Define key site) e = absurd (omega arith)
-done_body c s (WornDef key) e = refl
-done_body c s (Call q key site args verdict) e = refl
+done_body _ _ _ _ = refl
 
 turn_redefs : (k : ℕ) (s : Spot) (x : Entry) → s.redefs ≤ (turn k s x).redefs
 turn_redefs k s x = elim (eqb k (key_of x.act)) as (λ b. s.redefs ≤ (cond b (done x.caller.0 s x.act) s).redefs) [ true ↦ done_redefs x.caller.0 s x.act | false ↦ omega arith ]
 
 turn_body : (k : ℕ) (s : Spot) (x : Entry) → (turn k s x).redefs ≡ s.redefs → (turn k s x).body ≡ s.body
-turn_body k s x = elim (eqb k (key_of x.act)) as (λ b. (cond b (done x.caller.0 s x.act) s).redefs ≡ s.redefs → (cond b (done x.caller.0 s x.act) s).body ≡ s.body) [ true ↦ done_body x.caller.0 s x.act | false ↦ λ e. refl ]
+turn_body k s x = elim (eqb k (key_of x.act)) as (λ b. (cond b (done x.caller.0 s x.act) s).redefs ≡ s.redefs → (cond b (done x.caller.0 s x.act) s).body ≡ s.body)
+    [ true ↦ done_body x.caller.0 s x.act | false ↦ λ e. refl ]
 
 redefs_from : (k : ℕ) (s : Spot) (xs : List Entry) → s.redefs ≤ (spot_from k s xs).redefs
 redefs_from k s [] = omega arith
@@ -205,23 +176,11 @@ redefs_same k xs ys p = subst (λ w. (spot k w).redefs ≡ (spot k xs).redefs �
 
 done_changes : (c : ℕ) (s : Spot) (a : Act) → s.changes ≤ (done c s a).changes
 done_changes c s (Hold q key ty changes) = omega arith
-done_changes c s (Free q key) = omega arith
-done_changes c s (Retype key site) = omega arith
-done_changes c s (Busy key pins) = omega arith
-done_changes c s (WornType key) = omega arith
-done_changes c s (Define key site) = omega arith
-done_changes c s (WornDef key) = omega arith
-done_changes c s (Call q key site args verdict) = omega arith
+done_changes c s _ = omega arith
 
 done_ty : (c : ℕ) (s : Spot) (a : Act) → (done c s a).changes ≡ s.changes → (done c s a).ty ≡ s.ty
-done_ty c s (Hold q key ty changes) e = refl
-done_ty c s (Free q key) e = refl
 done_ty c s (Retype key site) e = absurd (omega arith)
-done_ty c s (Busy key pins) e = refl
-done_ty c s (WornType key) e = refl
-done_ty c s (Define key site) e = refl
-done_ty c s (WornDef key) e = refl
-done_ty c s (Call q key site args verdict) e = refl
+done_ty _ _ _ _ = refl
 
 turn_changes : (k : ℕ) (s : Spot) (x : Entry) → s.changes ≤ (turn k s x).changes
 turn_changes k s x = elim (eqb k (key_of x.act)) as (λ b. s.changes ≤ (cond b (done x.caller.0 s x.act) s).changes) [ true ↦ done_changes x.caller.0 s x.act | false ↦ omega arith ]
@@ -240,9 +199,6 @@ ty_from k s (x ∷ xs) e =
     let one : (turn k s x).changes ≡ s.changes = omega (arith, a, b, e) in
     ty_from k (turn k s x) xs (e ∙ sym one) ∙ turn_ty k s x one
 
-pub changes_grow : (k : ℕ) (xs rest : List Entry) → (spot k xs).changes ≤ (spot k (xs ++ rest)).changes
-changes_grow k xs rest = subst (λ (w : Spot). (spot k xs).changes ≤ w.changes) (sym (spot_from_append k blank xs rest)) (changes_from k (spot k xs) rest)
-
 pub changes_same : (k : ℕ) (xs rest : List Entry) → (spot k (xs ++ rest)).changes ≡ (spot k xs).changes → (spot k (xs ++ rest)).ty ≡ (spot k xs).ty
 changes_same k xs rest = subst (λ (w : Spot). w.changes ≡ (spot k xs).changes → w.ty ≡ (spot k xs).ty) (sym (spot_from_append k blank xs rest)) (ty_from k (spot k xs) rest)
 
@@ -250,14 +206,8 @@ pub times_length : (x : ℕ × ℕ) (ys : List (ℕ × ℕ)) → times x ys ≤ 
 times_length x ys = let n = length_without x ys in omega (arith, n)
 
 same_done : (limit c : ℕ) (s : Spot) (a : Act) → FitsAct limit c s a → 1 ≤ length s.calls → ((done c s a).ty ≡ s.ty) × ((done c s a).changes ≡ s.changes)
-same_done limit c s (Hold q key ty changes) f h = (refl, refl)
-same_done limit c s (Free q key) f h = (refl, refl)
 same_done limit c s (Retype key site) f h = absurd (let z = f.0 in omega arith)
-same_done limit c s (Busy key pins) f h = (refl, refl)
-same_done limit c s (WornType key) f h = (refl, refl)
-same_done limit c s (Define key site) f h = (refl, refl)
-same_done limit c s (WornDef key) f h = (refl, refl)
-same_done limit c s (Call q key site args verdict) f h = (refl, refl)
+same_done _ _ _ _ _ _ = (refl, refl)
 
 -- while a call holds a key, its type's site and count stay
 pub held_keeps : (limit key : ℕ) (call : ℕ × ℕ) (before rest : List Entry) → IsLegal limit (before ++ rest)

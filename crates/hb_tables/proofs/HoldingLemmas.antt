@@ -44,7 +44,8 @@ one_act q k hs (Hold p key ty changes) h = go (eqb q p.0) refl (eqb k key.0) ref
     none false e = refl
     none true e = absurd (cc e)
 
-    go : (a : Bool) → eqb q p.0 ≡ a → (b : Bool) → eqb k key.0 ≡ b → 1 ≤ count_of k (cond a (hs ++ record { key = key.0; ty = ty; changes = changes } ∷ []) hs) → Kept q k hs (Hold p key ty changes) ⊎ Begins q k (Hold p key ty changes)
+    go : (a : Bool) → eqb q p.0 ≡ a → (b : Bool) → eqb k key.0 ≡ b → 1 ≤ count_of k (cond a (hs ++ record { key = key.0; ty = ty; changes = changes } ∷ []) hs)
+        → Kept q k hs (Hold p key ty changes) ⊎ Begins q k (Hold p key ty changes)
     go true ea true eb h = inr (eqb-true q p.0 ea, eqb-true k key.0 eb)
     go true ea false eb h = let n = count_last k hs (record { key = key.0; ty = ty; changes = changes }) in let z = none (eqb k key.0) eb in inl (omega (arith, n, z, h), refl)
     go false ea b eb h = inl (h, refl)
@@ -54,12 +55,7 @@ one_act q k hs (Free p key) h = go (eqb q p.0) refl (eqb k key.0) refl h
     go true ea true eb h = let n = count_but k key.0 hs ∙ ap (λ b. cond b 0 (count_of k hs)) eb in absurd (omega (arith, n, h))
     go true ea false eb h = let n = count_but k key.0 hs ∙ ap (λ b. cond b 0 (count_of k hs)) eb in inl (omega (arith, n, h), rw (ea, eb) refl)
     go false ea b eb h = inl (h, rw ea refl)
-one_act q k hs (Retype key site) h = inl (h, refl)
-one_act q k hs (Busy key pins) h = inl (h, refl)
-one_act q k hs (WornType key) h = inl (h, refl)
-one_act q k hs (Define key site) h = inl (h, refl)
-one_act q k hs (WornDef key) h = inl (h, refl)
-one_act q k hs (Call p key site args verdict) h = inl (h, refl)
+one_act _ _ _ _ h = inl (h, refl)
 
 began : (q k : ℕ) (hs : List Stand) (l : List Act) → 1 ≤ count_of k (standing_from q hs l) → ((1 ≤ count_of k hs) × KeepsHold q k l) ⊎ Began q k l
 unfolding Kept Begins
@@ -71,13 +67,7 @@ began q k hs (a ∷ l) h = ⊎_elim (λ r. first a r (one_act q k hs a r.0)) (λ
 
     here : (a : Act) → Begins q k a → KeepsHold q k l → Began q k (a ∷ l)
     here (Hold p key ty changes) b keeps = record { front = []; p = p; key = key; ty = ty; changes = changes; back = l; is = refl; call = b.0; same = b.1; keeps = keeps }
-    here (Free p key) b keeps = absurd b
-    here (Retype key site) b keeps = absurd b
-    here (Busy key pins) b keeps = absurd b
-    here (WornType key) b keeps = absurd b
-    here (Define key site) b keeps = absurd b
-    here (WornDef key) b keeps = absurd b
-    here (Call p key site args verdict) b keeps = absurd b
+    here _ b _ = absurd b
 
     first : (a : Act) → (1 ≤ count_of k (stand_done q hs a)) × KeepsHold q k l → Kept q k hs a ⊎ Begins q k a → ((1 ≤ count_of k hs) × KeepsHold q k (a ∷ l)) ⊎ Began q k (a ∷ l)
     first a r (inl x) = inl (x.0, (x.1, r.1))

@@ -1,5 +1,6 @@
 -- An entry that fits keeps what the fields of the plain tables say.
-use Rattle.std.proofs.Common.{◌≡◌, ◌≢◌, Ok, ℕ, zero, suc, ◌+◌, ◌-◌, ◌<◌, ◌≤◌, ◌⊎◌, inl, inr, ⊎_elim, List, [], ◌∷◌, ◌++◌, length, length-append, drop, get_or, set, sym, refl, ap, ◌∙◌, subst, arith, length-set, Some, slice_get, ne_eqb, replicate}
+use Rattle.std.proofs.Common.{◌≡◌, ◌≢◌, Ok, ℕ, zero, suc, ◌+◌, ◌-◌, ◌<◌, ◌≤◌, ◌⊎◌, inl, inr, ⊎_elim, List, [], ◌∷◌, ◌++◌, length, length-append, drop, get_or, set, sym, refl}
+use Rattle.std.proofs.Common.{ap, ◌∙◌, subst, arith, length-set, Some, slice_get, ne_eqb, replicate}
 use Rattle.std.proofs.lemmas.List.{append-nil, drop-append-le, length-replicate}
 use Rattle.std.proofs.lemmas.Option.{slice_get_read}
 use mathlib.Core.List.{IsPrefix}
@@ -42,7 +43,8 @@ holds_more : (log : List Entry) (e : Entry) → key_of e.act < NAMES_MAX → hol
 holds_more log e inside =
     let f : ℕ → ℕ = λ k. length (spot k (log ++ e ∷ [])).calls in let g : ℕ → ℕ = λ k. length (spot k log).calls in
     let one = total_one NAMES_MAX (key_of e.act) f g inside (λ j ne. ap (λ (s : Spot). length s.calls) (spot_more j log e ∙ turn_else j (spot j log) e ne)) in
-    let here : f (key_of e.act) ≡ length (done e.caller.0 (spot (key_of e.act) log) e.act).calls = ap (λ (s : Spot). length s.calls) (spot_more (key_of e.act) log e ∙ turn_here (key_of e.act) (spot (key_of e.act) log) e refl) in
+    let here : f (key_of e.act) ≡ length (done e.caller.0 (spot (key_of e.act) log) e.act).calls = ap (λ (s : Spot). length s.calls)
+         (spot_more (key_of e.act) log e ∙ turn_here (key_of e.act) (spot (key_of e.act) log) e refl) in
     omega (arith, one, here)
 
 callers_more : (log : List Entry) (c : ℕ) (act : Act) → c < 256 → ((d : ℕ) → 256 ≤ d → journal d log ≡ []) → (d : ℕ) → 256 ≤ d → journal d (log ++ entry c act ∷ []) ≡ []
@@ -50,7 +52,8 @@ callers_more log c act low none d high =
     let n = ne_eqb d c (λ e. omega arith) in
     journal_append d log (entry c act ∷ []) ∙ (ap (λ w. w ++ journal d (entry c act ∷ [])) (none d high) ∙ rw n refl)
 
-pub tables_more : (limit : ℕ) (log : List Entry) (states : List KeyState) (owed : ℕ) (c : ℕ) (act : Act) (next : KeyState) (owed' : ℕ) → AreTables limit log states owed → c < 256 → key_of act < NAMES_MAX → FitsAct limit c (spot (key_of act) log) act
+pub tables_more : (limit : ℕ) (log : List Entry) (states : List KeyState) (owed : ℕ) (c : ℕ) (act : Act) (next : KeyState) (owed' : ℕ) → AreTables limit log states owed → c < 256
+    → key_of act < NAMES_MAX → FitsAct limit c (spot (key_of act) log) act
     → Matches next (done c (spot (key_of act) log) act) → owed' + length (spot (key_of act) log).calls ≡ owed + length (done c (spot (key_of act) log) act).calls
     → AreTables limit (log ++ entry c act ∷ []) (set states (key_of act) next) owed'
 tables_more limit log states owed c act next owed' w low inside fits same is = record {
@@ -67,7 +70,8 @@ owes : (limit : ℕ) (log : List Entry) (states : List KeyState) (owed k : ℕ) 
 owes limit log states owed k w inside = let t = total_at NAMES_MAX k (λ j. length (spot j log).calls) inside in let o = w.owed_is in omega (arith, t, o)
 
 -- the state that is kept of a key
-pub matches_at : (limit : ℕ) (log : List Entry) (states : List KeyState) (owed : ℕ) (key : KeyId) (s : KeyState) → AreTables limit log states owed → key.0 < NAMES_MAX → s ≡ get_or states key.0 s → Matches s (spot key.0 log)
+pub matches_at : (limit : ℕ) (log : List Entry) (states : List KeyState) (owed : ℕ) (key : KeyId) (s : KeyState) → AreTables limit log states owed → key.0 < NAMES_MAX → s ≡ get_or states key.0 s
+    → Matches s (spot key.0 log)
 matches_at limit log states owed key s w inside read = w.match key.0 s (slice_get_read states NAMES_MAX key.0 s (sym w.wide) inside read)
 
 -- one more entry of the caller whose door is open
@@ -108,15 +112,6 @@ free_tables limit log states owed c q key s w low inside read one =
       tables = tables_more limit log states owed c (Free q key) (record s { pins = s.pins - 1 }) (owed - 1) w low inside one (m.0, m.1, m.2, m.3, omega (arith, n, one, p)) (omega (arith, n, one, o));
     }
 
--- an entry at the end of what was known
-pub adds_here : (c : ℕ) (old : List Entry) (a : Act) → Adds c old (old ++ entry c a ∷ []) a
-adds_here c old a = ([], ap (λ w. w ++ entry c a ∷ []) (sym (append-nil old)), refl)
-
--- nothing new
-pub learns_none : (c : ℕ) (old : List Entry) → Learns c old old
-learns_none c old = ([], sym (append-nil old), refl)
-
--- a look that no newer one overtook is true now
 pub look_stays : (owner : KeyId) (look newer : Look) (before log : List Entry) → IsPrefix before log → IsLookAt owner.0 look before → IsLookAt owner.0 newer log → newer.changes ≤ look.changes → IsLookAt owner.0 look log
 look_stays owner look newer before log p h n low =
     let g = redefs_grow owner.0 before log p in let a = h.1 in let b = n.1 in
@@ -147,7 +142,8 @@ tables_none limit b low blank = record {
 }
 
 -- an act by which no hold begins or ends, where its rules are told of what is seen of the tables
-pub written_tables : (limit : ℕ) (log : List Entry) (states : List KeyState) (owed c : ℕ) (act : Act) (key : KeyId) (next : KeyState) → AreTables limit log states owed → c < 256 → (key.0 < NAMES_MAX) × (key_of act ≡ key.0)
+pub written_tables : (limit : ℕ) (log : List Entry) (states : List KeyState) (owed c : ℕ) (act : Act) (key : KeyId) (next : KeyState) → AreTables limit log states owed → c < 256
+    → (key.0 < NAMES_MAX) × (key_of act ≡ key.0)
     → (seen : Tables) → c ≡ seen.caller → log ≡ seen.log → limit ≡ seen.limit → FitsAct seen.limit seen.caller (spot key.0 seen.log) act → Matches next (done seen.caller (spot key.0 seen.log) act)
     → length (done seen.caller (spot key.0 seen.log) act).calls ≡ length (spot key.0 seen.log).calls
     → AreTables limit (log ++ entry c act ∷ []) (set states key.0 next) owed

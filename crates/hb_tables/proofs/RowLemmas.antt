@@ -27,14 +27,16 @@ pub key_type : (t : Table) (names : List Name) (log : List Entry) (k : Key) (j :
 key_type t names log k j is = ap (λ o. type_at (sites_of t) (site_in log o)) is
 
 -- a list of names and a longer one give held keys the same types
-types_longer : (t : Table) (names more : List Name) (log : List Entry) (x : ℕ × ℕ) (ks : List Key) → ((p : Name) → Contains (map (name_of t) ks) p → HoldsName names log x p) → SameAt (types_in t names log) (types_in t (names ++ more) log) ks
+types_longer : (t : Table) (names more : List Name) (log : List Entry) (x : ℕ × ℕ) (ks : List Key) → ((p : Name) → Contains (map (name_of t) ks) p → HoldsName names log x p)
+    → SameAt (types_in t names log) (types_in t (names ++ more) log) ks
 types_longer t names more log x [] h = tt
 types_longer t names more log x (k ∷ ks) h =
     let one = h (name_of t k) (0, omega arith, refl) in
     (ap (λ o. type_at (sites_of t) (site_in log o)) (one.1 ∙ sym (place-append names more (name_of t k) one.0 one.1)), types_longer t names more log x ks (λ p i. h p (let n = i.1 in (suc i.0, omega arith, i.2))))
 
 -- a Call that fits its row for a list of names fits it for every longer list
-pub row_longer : (t : Table) (names more : List Name) (log : List Entry) (x : ℕ × ℕ) (key : ℕ) (site : Option BodySite) (kinds : List Ty) (v : Verdict) → IsDecided t names log x key site kinds v → IsDecided t (names ++ more) log x key site kinds v
+pub row_longer : (t : Table) (names more : List Name) (log : List Entry) (x : ℕ × ℕ) (key : ℕ) (site : Option BodySite) (kinds : List Ty) (v : Verdict) → IsDecided t names log x key site kinds v
+    → IsDecided t (names ++ more) log x key site kinds v
 row_longer t names more log x key site kinds v d =
     let b = body_at t site in let m = type_of_key t log key in
     let ks : List Key = looks_of t (types_in t names log) d.name.0 b m kinds in
@@ -51,13 +53,7 @@ row_longer t names more log x key site kinds v d =
 
 fits_longer : (t : Table) (names more : List Name) (c : ℕ) (log : List Entry) (a : Act) → FitsCall t names c log a → FitsCall t (names ++ more) c log a
 fits_longer t names more c log (Call q key site args v) d = row_longer t names more log (c, q.0) key.0 site (kinds_of args) v d
-fits_longer t names more c log (Hold q key ty changes) d = d
-fits_longer t names more c log (Free q key) d = d
-fits_longer t names more c log (Retype key site) d = d
-fits_longer t names more c log (Busy key pins) d = d
-fits_longer t names more c log (WornType key) d = d
-fits_longer t names more c log (Define key site) d = d
-fits_longer t names more c log (WornDef key) d = d
+fits_longer _ _ _ _ _ _ d = d
 
 -- and so do all Calls of a list
 pub rows_longer : (t : Table) (names more : List Name) (log : List Entry) → HasCallRows t names log → HasCallRows t (names ++ more) log

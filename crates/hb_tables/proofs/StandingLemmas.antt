@@ -22,7 +22,8 @@ count_but k j [] = go (eqb k j)
     go false = refl
 count_but k j (h ∷ hs) = go (eqb j h.key) refl (eqb k j) refl (count_but k j hs)
   where
-    go : (a : Bool) → eqb j h.key ≡ a → (b : Bool) → eqb k j ≡ b → count_of k (all_but j hs) ≡ cond b 0 (count_of k hs) → count_of k (cond a (all_but j hs) (h ∷ all_but j hs)) ≡ cond b 0 (cond (eqb k h.key) 1 0 + count_of k hs)
+    go : (a : Bool) → eqb j h.key ≡ a → (b : Bool) → eqb k j ≡ b → count_of k (all_but j hs) ≡ cond b 0 (count_of k hs)
+        → count_of k (cond a (all_but j hs) (h ∷ all_but j hs)) ≡ cond b 0 (cond (eqb k h.key) 1 0 + count_of k hs)
     go true ea true eb r = r
     go true ea false eb r = let n : eqb k h.key ≡ false = ap (eqb k) (sym (eqb-true j h.key ea)) ∙ eb in rw n (omega (arith, r))
     go false ea true eb r = let n : eqb k h.key ≡ false = ap (λ i. eqb i h.key) (eqb-true k j eb) ∙ ea in rw n (omega (arith, r))
@@ -40,7 +41,8 @@ held_one c q k s hs (Hold p key ty changes) e = go (eqb k key.0) refl (eqb q p.0
     two false h = refl
     two true h = absurd (cc)
 
-    go : (a : Bool) → eqb k key.0 ≡ a → (b : Bool) → eqb q p.0 ≡ b → times (c, q) (cond a (record s { calls = (c, p.0) ∷ s.calls }) s).calls ≡ count_of k (cond b (hs ++ record { key = key.0; ty = ty; changes = changes } ∷ []) hs)
+    go : (a : Bool) → eqb k key.0 ≡ a → (b : Bool) → eqb q p.0 ≡ b
+        → times (c, q) (cond a (record s { calls = (c, p.0) ∷ s.calls }) s).calls ≡ count_of k (cond b (hs ++ record { key = key.0; ty = ty; changes = changes } ∷ []) hs)
     go true ea true eb = let f = eq-eqb c c refl in let n = count_last k hs (record { key = key.0; ty = ty; changes = changes }) in rw (f, eb) (let o = one (eqb k key.0) ea in omega (arith, e, n, o))
     go true ea false eb = let f = eq-eqb c c refl in rw (f, eb) (omega (arith, e))
     go false ea true eb = let n = count_last k hs (record { key = key.0; ty = ty; changes = changes }) in let o = two (eqb k key.0) ea in omega (arith, e, n, o)
@@ -98,22 +100,12 @@ standing_append q hs (a ∷ l) m = standing_append q (stand_done q hs a) l m
 abbrev pub has_part : ℕ → Act → Bool
 has_part q (Hold p key ty changes) = eqb q p.0
 has_part q (Free p key) = eqb q p.0
-has_part q (Retype key site) = false
-has_part q (Busy key pins) = false
-has_part q (WornType key) = false
-has_part q (Define key site) = false
-has_part q (WornDef key) = false
-has_part q (Call p key site args verdict) = false
+has_part _ _ = false
 
 stand_apart : (q : ℕ) (hs : List Stand) (a : Act) → has_part q a ≡ false → stand_done q hs a ≡ hs
 stand_apart q hs (Hold p key ty changes) h = rw h refl
 stand_apart q hs (Free p key) h = rw h refl
-stand_apart q hs (Retype key site) h = refl
-stand_apart q hs (Busy key pins) h = refl
-stand_apart q hs (WornType key) h = refl
-stand_apart q hs (Define key site) h = refl
-stand_apart q hs (WornDef key) h = refl
-stand_apart q hs (Call p key site args verdict) h = refl
+stand_apart _ _ _ _ = refl
 
 -- a frame's Holds stand as long as its call has no part in what its caller does
 pub standing_stays : (q : ℕ) (l : List Act) (a : Act) → has_part q a ≡ false → standing q (l ++ a ∷ []) ≡ standing q l

@@ -46,7 +46,8 @@ failed types s f (Ok x) e h = absurd (cc h)
 failed types s f (Err g) e h = body_fails_from types s f (e ∙ ap Err (cc h))
 
 -- a verdict enters a body exactly where it is judged
-pub enters_from : (t : Table) (types : Types) (class : ℕ) (b : Option Body) (m : Option MethodTy) (kinds : List Ty) → verdict_of t types class b m kinds ≡ verdict.Enter by.Fresh → Reaches (IsJudged types) t class b m kinds
+pub enters_from : (t : Table) (types : Types) (class : ℕ) (b : Option Body) (m : Option MethodTy) (kinds : List Ty) → verdict_of t types class b m kinds ≡ verdict.Enter by.Fresh
+    → Reaches (IsJudged types) t class b m kinds
 enters_from t types class None m kinds h = absurd (cc h)
 enters_from t types class (Some b) None kinds h = absurd (cc h)
 enters_from t types class (Some b) (Some m) kinds h = go (takes m kinds) refl h
@@ -59,14 +60,17 @@ pub enters_of : (t : Table) (types : Types) (class : ℕ) (b : Option Body) (m :
 enters_of t types class b m kinds r = rw (r.has_body, r.has_type) (rw r.fits (ap checked_verdict (judge_body_of types (subject t class r.body r.declared) r.holds)))
 
 -- and tells a fault exactly where the body has it
-pub ill_from : (t : Table) (types : Types) (class : ℕ) (b : Option Body) (m : Option MethodTy) (kinds : List Ty) (f : Ill) → verdict_of t types class b m kinds ≡ verdict.IllTyped f → Reaches (λ s. BodyFails types s f) t class b m kinds
+pub ill_from : (t : Table) (types : Types) (class : ℕ) (b : Option Body) (m : Option MethodTy) (kinds : List Ty) (f : Ill) → verdict_of t types class b m kinds ≡ verdict.IllTyped f
+    → Reaches (λ s. BodyFails types s f) t class b m kinds
 ill_from t types class None m kinds f h = absurd (cc h)
 ill_from t types class (Some b) None kinds f h = absurd (cc h)
 ill_from t types class (Some b) (Some m) kinds f h = go (takes m kinds) refl h
   where
-    go : (a : Bool) → takes m kinds ≡ a → (if a then checked_verdict (judge_body types (subject t class b m)) else verdict.BadArgs) ≡ verdict.IllTyped f → Reaches (λ s. BodyFails types s f) t class (Some b) (Some m) kinds
+    go : (a : Bool) → takes m kinds ≡ a → (if a then checked_verdict (judge_body types (subject t class b m)) else verdict.BadArgs) ≡ verdict.IllTyped f
+        → Reaches (λ s. BodyFails types s f) t class (Some b) (Some m) kinds
     go true e h = record { body = b; declared = m; has_body = refl; has_type = refl; fits = e; holds = failed types (subject t class b m) f (judge_body types (subject t class b m)) refl h }
     go false e h = absurd (cc h)
 
-pub ill_of : (t : Table) (types : Types) (class : ℕ) (b : Option Body) (m : Option MethodTy) (kinds : List Ty) (f : Ill) → Reaches (λ s. BodyFails types s f) t class b m kinds → verdict_of t types class b m kinds ≡ verdict.IllTyped f
+pub ill_of : (t : Table) (types : Types) (class : ℕ) (b : Option Body) (m : Option MethodTy) (kinds : List Ty) (f : Ill) → Reaches (λ s. BodyFails types s f) t class b m kinds
+    → verdict_of t types class b m kinds ≡ verdict.IllTyped f
 ill_of t types class b m kinds f r = rw (r.has_body, r.has_type) (rw r.fits (ap checked_verdict (body_fails_of types (subject t class r.body r.declared) f r.holds)))
