@@ -1,13 +1,9 @@
 -- Finite maps of variables: what is found after each change.
 use Rattle.std.proofs.Common.{◌≡◌, ℕ, zero, suc, ◌<◌, ◌≤◌, append-nil, [], ◌∷◌, ◌++◌, length, get_or, drop, set as list_set, Option, Some, None, Bool, true, false, refl, sym}
 use Rattle.std.proofs.Common.{ap, ◌∙◌, subst, arith, nat_eq, eq-eqb, ◌||◌, ◌&&◌, if◌then◌else◌, position, ltb-true, ltb-false}
-use Rattle.std.proofs.lemmas.Bool.{eqb-true}
-use Rattle.std.specs.Prelude.{nat_lt}
-use Rattle.std.specs.List.{position_or_len, refill}
-use Rattle.std.proofs.lemmas.List.{length-set, drop_all}
-use Rattle.std.proofs.lemmas.List.Sums.{fails_before_first, passes_at_first}
-use Rattle.hb_types.specs.declared.ids.NameId.{NameId}
-use Rattle.hb_types.specs.declared.types.Ty.{Ty}
+use Rattle.std.proofs.{lemmas.Bool.eqb-true, lemmas.List.length-set, lemmas.List.drop_all, lemmas.List.Sums.fails_before_first, lemmas.List.Sums.passes_at_first}
+use Rattle.std.specs.{Prelude.nat_lt, List.position_or_len, List.refill}
+use Rattle.hb_types.specs.declared.{ids.NameId.NameId, types.Ty.Ty}
 use Rattle.hb_types.specs.declared.types.Ty.TheVariants as ty
 use Rattle.hb_types.specs.Types.{is_below}
 use Rattle.hb_types.specs.Variables.{Variables, variable, has, IsMap, get, set, joined, join, both, stays_below, keeps}
@@ -98,7 +94,7 @@ join_map (v ∷ G) H h = go (get H v.0.0) (join_map G H h.1)
     go None rest = rest
     go (Some u) rest = (has_join G H v.0.0 h.0, rest)
 
-both_true : (a b : Bool) → (a && b) ≡ true → (a ≡ true) × (b ≡ true)
+pub both_true : (a b : Bool) → (a && b) ≡ true → (a ≡ true) × (b ≡ true)
 both_true true true h = (refl, refl)
 both_true true false h = absurd (cc)
 both_true false b h = absurd (cc)

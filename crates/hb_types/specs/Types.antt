@@ -1,9 +1,7 @@
 -- The order of types and their join, and which method types there are.
 use Rattle.std.specs.Prelude.{◌≡◌, ◌≤◌, List, length, take, drop, All, Bool, true, false, ◌||◌, nat_eq, if◌then◌else◌}
-use Rattle.hb_types.specs.declared.types.TheConstants.{PARAMS_MAX}
-use Rattle.hb_types.specs.declared.types.Ty.{Ty}
+use Rattle.hb_types.specs.declared.{types.TheConstants.PARAMS_MAX, types.Ty.Ty, types.MethodTy.MethodTy}
 use Rattle.hb_types.specs.declared.types.Ty.TheVariants as ty
-use Rattle.hb_types.specs.declared.types.MethodTy.{MethodTy}
 
 -- a type is below itself, nil is below each type, and each type is below any
 pub data IsBelow : Ty → Ty → Type 0 where

@@ -1,7 +1,6 @@
 -- Variables and their types: a finite map, as a list in which each name stands once.
 use Rattle.std.specs.Prelude.{◌≡◌, ℕ, List, [], ◌∷◌, Option, Some, None, Bool, true, false, nat_eq, ◌||◌, ◌&&◌, if◌then◌else◌}
-use Rattle.hb_types.specs.declared.ids.NameId.{NameId}
-use Rattle.hb_types.specs.declared.types.Ty.{Ty}
+use Rattle.hb_types.specs.declared.{ids.NameId.NameId, types.Ty.Ty}
 use Rattle.hb_types.specs.Types.{is_below, join_of}
 
 abbrev pub Variables : Type 0
