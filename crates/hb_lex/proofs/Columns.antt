@@ -5,8 +5,7 @@ use Rattle.std.specs.List.{after_last, suffix_len, prefix_len}
 use Rattle.std.proofs.lemmas.Bool.{cond-true, cond-false, eq-eqb, ne_eqb, not_from_true, not_from_false}
 use Rattle.std.proofs.lemmas.List.{length-reverse, reverse-append, take_more, get_or-take, get_or-drop}
 use Rattle.std.proofs.lemmas.List.Sums.{sum_by-append, prefix_len-le-length}
-use Rattle.hb_lex.specs.Bytes.{is_line_feed}
-use Rattle.hb_lex.specs.Place.{line_at, column_at}
+use Rattle.hb_lex.specs.{Bytes.is_line_feed, Place.line_at, Place.column_at}
 
 after_last_len : (bytes : List ℕ) → length (after_last is_line_feed bytes) ≡ length (take_while (λ b. not (is_line_feed b)) (reverse bytes))
 after_last_len bytes =

@@ -1,12 +1,9 @@
 -- What bytes of a first sort make a token.
 use Rattle.std.proofs.Common.{◌≡◌, ℕ, ◌≤◌, ◌<◌, ◌⊎◌, List, [], ◌∷◌, ◌++◌, length, get_or, Bool, true, false, not, Option, Some, None, refl, sym, ◌∙◌, ap, subst, inl, inr, arith, codes, cond}
 use Rattle.std.specs.Prelude.{◌&&◌, ◌||◌, nat_le, bytes_eq, find}
-use Rattle.std.specs.List.{list_all}
-use Rattle.std.specs.Option.{option_or}
+use Rattle.std.specs.{List.list_all, Option.option_or}
 use Rattle.std.proofs.lemmas.Bool.{and_parts, and_from, or_cases, or_left, cases_Bool, both_ways, cond-true, cond-false, false_from_ne_true, not-true, and_left}
-use Rattle.std.proofs.lemmas.Bool.Decides.{nat_tests}
-use Rattle.std.proofs.lemmas.Slice.Eq.{bytes_eq-Decides}
-use Rattle.std.proofs.lemmas.List.Folds.{find-append}
+use Rattle.std.proofs.{lemmas.Bool.Decides.nat_tests, lemmas.Slice.Eq.bytes_eq-Decides, lemmas.List.Folds.find-append}
 use Rattle.hb_lex.specs.declared.kinds.TokenKind.{TokenKind}
 use Rattle.hb_lex.specs.declared.kinds.TokenKind.TheVariants as k
 use Rattle.hb_lex.specs.Bytes.{is_small, is_capital, is_digit, is_word_byte, is_quote}
@@ -22,7 +19,7 @@ small_no_digit b h = grind (arith, nat_tests)
 capital_no_digit : (b : ℕ) → is_capital b ≡ true → is_digit b ≡ false
 capital_no_digit b h = grind (arith, nat_tests)
 
-capital_no_small : (b : ℕ) → is_capital b ≡ true → is_small b ≡ false
+pub capital_no_small : (b : ℕ) → is_capital b ≡ true → is_small b ≡ false
 capital_no_small b h = grind (arith, nat_tests)
 
 quote_no_word : (b : ℕ) → is_quote b ≡ true → is_word_byte b ≡ false

@@ -3,13 +3,11 @@ use Rattle.std.proofs.Common.{◌≡◌, ℕ, zero, suc, ◌≤◌, ◌<◌, Lis
 use Rattle.std.specs.Prelude.{◌||◌, nat_eq, take_while, bytes_eq}
 use Rattle.std.specs.List.{list_all, starts_with}
 use Rattle.std.proofs.lemmas.Bool.{and_parts, and_from, cases_Bool, both_ways, cond-true, cond-false, or_cases}
-use Rattle.std.proofs.lemmas.Slice.Eq.{bytes_eq-Decides}
-use Rattle.std.proofs.lemmas.List.Sums.{take_while-cons}
+use Rattle.std.proofs.{lemmas.Slice.Eq.bytes_eq-Decides, lemmas.List.Sums.take_while-cons}
+use Rattle.hb_lex.specs.{Spelling.words, Spelling.spelled, Tokens.kind_of, Tokens.IsNext}
 use Rattle.hb_lex.specs.declared.kinds.TokenKind.{TokenKind}
 use Rattle.hb_lex.specs.declared.kinds.TokenKind.TheVariants as k
 use Rattle.hb_lex.specs.Bytes.{is_small, is_capital, is_digit, is_word_byte}
-use Rattle.hb_lex.specs.Spelling.{words, spelled}
-use Rattle.hb_lex.specs.Tokens.{kind_of, IsNext}
 use Rattle.hb_lex.proofs.Forms.{none_from, only_word, only_number, kind_of_spelling, kind_of_reserved, kind_of_name, kind_of_class, kind_of_number, letter_byte}
 
 -- n bytes pass the test, and no more do

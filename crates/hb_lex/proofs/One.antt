@@ -2,9 +2,8 @@
 use Rattle.std.proofs.Common.{◌≡◌, ℕ, zero, suc, ◌+◌, List, [], ◌∷◌, take, drop, Bool, true, false, Option, Some, Ok, Err, sym, ◌∙◌, ap, subst, inl, inr}
 use Rattle.std.specs.Prelude.{MatchBool, MatchResult}
 use Rattle.std.proofs.lemmas.Bool.{cases_order}
-use Rattle.hb_lex.specs.declared.kinds.TokenKind.{TokenKind}
+use Rattle.hb_lex.specs.declared.{kinds.TokenKind.TokenKind, spans.Token.Token}
 use Rattle.hb_lex.specs.declared.kinds.TokenKind.TheVariants as k
-use Rattle.hb_lex.specs.declared.spans.Token.{Token}
 use Rattle.hb_lex.specs.Bytes.{is_blank, is_hash, is_line_feed}
 use Rattle.hb_lex.specs.Tokens.{IsNext, BeginsNone, kind_of, excess}
 use Rattle.hb_lex.specs.Text.{Answer, Follows, Front, IsFront, Lexes, after, comment_len, separates, token_at}

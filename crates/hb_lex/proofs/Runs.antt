@@ -1,16 +1,12 @@
 -- What is read so far, and what is read behind it.
 use Rattle.std.proofs.Common.{◌≡◌, ℕ, zero, suc, ◌+◌, ◌-◌, ◌<◌, ◌≤◌, List, [], ◌∷◌, ◌++◌, length, take, drop, Bool, true, false, not, Option, Some, None, Ok, Err, refl, sym}
 use Rattle.std.proofs.Common.{◌∙◌, ap, subst, arith, append_assoc, get_or, length-drop, length-take}
-use Rattle.std.specs.Prelude.{MatchBool, Result}
-use Rattle.std.specs.List.{prefix_len}
+use Rattle.std.specs.{Prelude.MatchBool, Prelude.Result, List.prefix_len}
 use Rattle.std.proofs.lemmas.Bool.{both_ways, cond-true, not_from_false}
-use Rattle.std.proofs.lemmas.Bool.Decides.{nat_tests}
+use Rattle.std.proofs.{lemmas.Bool.Decides.nat_tests, lemmas.List.Sums.take_while-cons}
 use Rattle.std.proofs.lemmas.List.{drop_more, drop_all, drop-drop, append-nil, take_rest}
-use Rattle.std.proofs.lemmas.List.Sums.{take_while-cons}
-use Rattle.hb_lex.specs.declared.kinds.TokenKind.{TokenKind}
+use Rattle.hb_lex.specs.declared.{kinds.TokenKind.TokenKind, faults.LexFail.LexFail, spans.Token.Token}
 use Rattle.hb_lex.specs.declared.kinds.TokenKind.TheVariants as k
-use Rattle.hb_lex.specs.declared.faults.LexFail.{LexFail}
-use Rattle.hb_lex.specs.declared.spans.Token.{Token}
 use Rattle.hb_lex.specs.Bytes.{is_blank, is_hash, is_line_feed}
 use Rattle.hb_lex.specs.Tokens.{IsNext}
 use Rattle.hb_lex.specs.Text.{Answer, Lexes, HasTokens, HasFault, IsFront, after, comment_len, separates, token_at}
@@ -18,11 +14,11 @@ use Rattle.hb_lex.proofs.Forms.{empty_none}
 
 -- ── one step of the relation ──
 
-on_true : (b : Bool) (P Q : Type 0) → b ≡ true → P → MatchBool b P Q
+pub on_true : (b : Bool) (P Q : Type 0) → b ≡ true → P → MatchBool b P Q
 on_true true P Q h p = p
 on_true false P Q h p = absurd (both_ways false refl h)
 
-on_false : (b : Bool) (P Q : Type 0) → b ≡ false → Q → MatchBool b P Q
+pub on_false : (b : Bool) (P Q : Type 0) → b ≡ false → Q → MatchBool b P Q
 on_false false P Q h q = q
 on_false true P Q h q = absurd (both_ways true h refl)
 

@@ -1,22 +1,17 @@
 -- The tokens of a text stand in it in order, and its first fault has a place in it.
 use Rattle.std.proofs.Common.{◌≡◌, ℕ, zero, suc, ◌+◌, ◌-◌, ◌<◌, ◌≤◌, List, [], ◌∷◌, length, take, drop, Bool, true, false, Option, Some, None, Ok, Err, refl, sym, ◌∙◌, ap, subst, inl, inr, arith, length-drop}
 use Rattle.std.specs.Prelude.{nat_lt, MatchBool, MatchResult, All}
-use Rattle.std.proofs.Common.{cond}
-use Rattle.std.proofs.lemmas.Bool.{eqb-true, ltb-false}
-use Rattle.std.proofs.lemmas.List.{drop-drop}
-use Rattle.std.proofs.lemmas.List.Elements.{All-nil, All-cons}
-use Rattle.hb_lex.specs.declared.kinds.TokenKind.{TokenKind}
+use Rattle.std.proofs.{Common.cond, lemmas.Bool.eqb-true, lemmas.Bool.ltb-false, lemmas.List.drop-drop, lemmas.List.Elements.All-nil, lemmas.List.Elements.All-cons}
+use Rattle.hb_lex.proofs.{Forms.cond_cases, Runs.next-some}
+use Rattle.hb_lex.specs.declared.{kinds.TokenKind.TokenKind, faults.LexFail.LexFail, spans.Token.Token}
 use Rattle.hb_lex.specs.declared.kinds.TokenKind.TheVariants as k
-use Rattle.hb_lex.specs.declared.faults.LexFail.{LexFail}
 use Rattle.hb_lex.specs.declared.faults.LexFail.TheVariants as fail
-use Rattle.hb_lex.specs.declared.spans.Token.{Token}
 use Rattle.hb_lex.specs.Bytes.{is_blank, is_hash, is_line_feed, is_quote, is_backslash, is_plain, is_escape}
 use Rattle.hb_lex.specs.Fault.{IsFaultOf}
 use Rattle.hb_lex.specs.Literal.{text_fault, value_of_number, value_of_text}
 use Rattle.hb_lex.specs.Tokens.{IsNext, Stands, AreInOrder, bytes_of, kind_of, excess}
 use Rattle.hb_lex.specs.Text.{Answer, Follows, Front, IsFront, Lexes, after, comment_len, front_fault, separates, token_at}
-use Rattle.hb_lex.proofs.Forms.{cond_cases}
-use Rattle.hb_lex.proofs.Runs.{next-some}
+use Rattle.hb_lex.specs.Sizes.{longest_name, longest_text, greatest_number}
 
 -- the tokens of an answer stand in the text, from `at` on, and its fault is one of the text
 abbrev pub StandsFrom : List ℕ → ℕ → Answer → Type 0
@@ -123,7 +118,7 @@ split : (b : Bool) (P Q R : Type 0) → MatchBool b P Q → (b ≡ true → P �
 split true P Q R h f g = f refl h
 split false P Q R h f g = g refl h
 
-behind : (whole : List ℕ) (at m : ℕ) (text : List ℕ) → text ≡ drop at whole → drop m text ≡ drop (at + m) whole
+pub behind : (whole : List ℕ) (at m : ℕ) (text : List ℕ) → text ≡ drop at whole → drop m text ≡ drop (at + m) whole
 behind whole at m text e = ap (drop m) e ∙ drop-drop m at whole
 
 front_stands : (whole : List ℕ) (at : ℕ) (text : List ℕ) (P : ℕ → TokenKind → Answer → Type 0) (answer : Answer) (front : Front) → text ≡ drop at whole
@@ -160,14 +155,14 @@ bytes_have_kind text token h kind e other = elim h.kind [
 below_limit : (limit n : ℕ) (fault : LexFail) → cond (nat_lt limit n) (Some fault) None ≡ None → n ≤ limit
 below_limit limit n fault h = elim (cond_cases (nat_lt limit n) _ _ _ h) [ inl over ↦ absurd (cc over.1) | inr under ↦ ltb-false limit n under.0 ]
 
-pub number_small : (text : List ℕ) (token : Token) → Stands text token → token.kind ≡ k.Number → value_of_number (bytes_of text token) ≤ 9223372036854775807
-number_small text token h e = below_limit 9223372036854775807 _ (fail.BigNumber token.from) (ap (λ x. excess x token.from (bytes_of text token)) (sym e) ∙ h.small)
+pub number_small : (text : List ℕ) (token : Token) → Stands text token → token.kind ≡ k.Number → value_of_number (bytes_of text token) ≤ greatest_number
+number_small text token h e = below_limit greatest_number _ (fail.BigNumber token.from) (ap (λ x. excess x token.from (bytes_of text token)) (sym e) ∙ h.small)
 
-pub text_small : (text : List ℕ) (token : Token) → Stands text token → token.kind ≡ k.Text → length (value_of_text (bytes_of text token)) ≤ 1024
-text_small text token h e = below_limit 1024 _ (fail.LongLiteral token.from) (ap (λ x. excess x token.from (bytes_of text token)) (sym e) ∙ h.small)
+pub text_small : (text : List ℕ) (token : Token) → Stands text token → token.kind ≡ k.Text → length (value_of_text (bytes_of text token)) ≤ longest_text
+text_small text token h e = below_limit longest_text _ (fail.LongLiteral token.from) (ap (λ x. excess x token.from (bytes_of text token)) (sym e) ∙ h.small)
 
-pub name_small : (text : List ℕ) (token : Token) → Stands text token → token.kind ≡ k.Name → length (bytes_of text token) ≤ 64
-name_small text token h e = below_limit 64 _ (fail.LongName token.from) (ap (λ x. excess x token.from (bytes_of text token)) (sym e) ∙ h.small)
+pub name_small : (text : List ℕ) (token : Token) → Stands text token → token.kind ≡ k.Name → length (bytes_of text token) ≤ longest_name
+name_small text token h e = below_limit longest_name _ (fail.LongName token.from) (ap (λ x. excess x token.from (bytes_of text token)) (sym e) ∙ h.small)
 
-pub class_small : (text : List ℕ) (token : Token) → Stands text token → token.kind ≡ k.ClassName → length (bytes_of text token) ≤ 64
-class_small text token h e = below_limit 64 _ (fail.LongName token.from) (ap (λ x. excess x token.from (bytes_of text token)) (sym e) ∙ h.small)
+pub class_small : (text : List ℕ) (token : Token) → Stands text token → token.kind ≡ k.ClassName → length (bytes_of text token) ≤ longest_name
+class_small text token h e = below_limit longest_name _ (fail.LongName token.from) (ap (λ x. excess x token.from (bytes_of text token)) (sym e) ∙ h.small)

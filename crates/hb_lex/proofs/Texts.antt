@@ -1,8 +1,7 @@
 -- Text tokens at the front of a text.
 use Rattle.std.proofs.Common.{◌≡◌, ℕ, zero, suc, ◌+◌, ◌≤◌, ◌<◌, List, [], ◌∷◌, ◌-◌, length, take, drop, get_or, Bool, true, false, Some, None, refl, sym, ◌∙◌, ap, inl, inr, arith, add-one, length-take}
 use Rattle.std.proofs.lemmas.Bool.{and_parts, cases_Bool, both_ways, cond-true, cond-false}
-use Rattle.std.proofs.lemmas.Bool.Decides.{nat_tests}
-use Rattle.std.proofs.lemmas.List.{take_rest}
+use Rattle.std.proofs.{lemmas.Bool.Decides.nat_tests, lemmas.List.take_rest}
 use Rattle.hb_lex.specs.declared.kinds.TokenKind.TheVariants as k
 use Rattle.hb_lex.specs.declared.faults.LexFail.{LexFail}
 use Rattle.hb_lex.specs.Bytes.{is_line_feed, is_quote, is_backslash, is_plain, is_escape}

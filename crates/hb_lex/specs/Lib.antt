@@ -5,3 +5,4 @@ pub mod Tokens
 pub mod Fault
 pub mod Text
 pub mod Place
+pub mod Sizes

@@ -1,10 +1,8 @@
 -- The tokens of a text, or its first fault.
 use Rattle.std.specs.Prelude.{◌≡◌, ◌⊎◌, ℕ, zero, suc, ◌+◌, List, [], ◌∷◌, length, take, drop, take_while, Bool, true, false, not, Option, Some, None, Result, Ok, Err, MatchResult, MatchBool, if◌then◌else◌}
-use Rattle.hb_lex.specs.declared.kinds.TokenKind.{TokenKind}
+use Rattle.hb_lex.specs.declared.{kinds.TokenKind.TokenKind, faults.LexFail.LexFail, spans.Token.Token}
 use Rattle.hb_lex.specs.declared.kinds.TokenKind.TheVariants as k
-use Rattle.hb_lex.specs.declared.faults.LexFail.{LexFail}
 use Rattle.hb_lex.specs.declared.faults.LexFail.TheVariants as fail
-use Rattle.hb_lex.specs.declared.spans.Token.{Token}
 use Rattle.hb_lex.specs.Bytes.{is_blank, is_hash, is_line_feed, is_quote}
 use Rattle.hb_lex.specs.Literal.{text_fault}
 use Rattle.hb_lex.specs.Tokens.{IsNext, BeginsNone, excess}

@@ -1,15 +1,13 @@
 -- What bytes are a token.
 use Rattle.std.specs.Prelude.{◌≡◌, ◌≤◌, ◌<◌, ℕ, List, [], ◌∷◌, length, take, slice_range, Bool, false, ◌&&◌, nat_lt, Option, Some, None, if◌then◌else◌, ◌⊎◌}
-use Rattle.std.specs.Option.{option_or}
-use Rattle.std.specs.List.{list_all}
-use Rattle.hb_lex.specs.declared.kinds.TokenKind.{TokenKind}
+use Rattle.std.specs.{Option.option_or, List.list_all}
+use Rattle.hb_lex.specs.declared.{kinds.TokenKind.TokenKind, faults.LexFail.LexFail, spans.Token.Token}
 use Rattle.hb_lex.specs.declared.kinds.TokenKind.TheVariants as k
-use Rattle.hb_lex.specs.declared.faults.LexFail.{LexFail}
 use Rattle.hb_lex.specs.declared.faults.LexFail.TheVariants as fail
-use Rattle.hb_lex.specs.declared.spans.Token.{Token}
 use Rattle.hb_lex.specs.Bytes.{is_small, is_capital, is_word_byte}
 use Rattle.hb_lex.specs.Literal.{is_number, is_text, value_of_number, value_of_text}
 use Rattle.hb_lex.specs.Spelling.{fixed}
+use Rattle.hb_lex.specs.Sizes.{longest_name, longest_text, greatest_number}
 
 -- a first byte of this sort, then letters, digits and `_`
 abbrev pub is_word : (ℕ → Bool) → List ℕ → Bool
@@ -41,10 +39,10 @@ BeginsNone text = (m : ℕ) → m ≤ length text → kind_of (take m text) ≡ 
 
 -- the fault of a whole token at `at` that is too large
 abbrev pub excess : TokenKind → ℕ → List ℕ → Option LexFail
-excess k.Name at bytes = if nat_lt 64 (length bytes) then Some (fail.LongName at) else None
-excess k.ClassName at bytes = if nat_lt 64 (length bytes) then Some (fail.LongName at) else None
-excess k.Number at bytes = if nat_lt 9223372036854775807 (value_of_number bytes) then Some (fail.BigNumber at) else None
-excess k.Text at bytes = if nat_lt 1024 (length (value_of_text bytes)) then Some (fail.LongLiteral at) else None
+excess k.Name at bytes = if nat_lt longest_name (length bytes) then Some (fail.LongName at) else None
+excess k.ClassName at bytes = if nat_lt longest_name (length bytes) then Some (fail.LongName at) else None
+excess k.Number at bytes = if nat_lt greatest_number (value_of_number bytes) then Some (fail.BigNumber at) else None
+excess k.Text at bytes = if nat_lt longest_text (length (value_of_text bytes)) then Some (fail.LongLiteral at) else None
 excess _ at bytes = None
 
 -- the bytes of a token

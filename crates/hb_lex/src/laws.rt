@@ -5,6 +5,7 @@ ghost use Rattle.hb_lex.specs.Literal.{value_of_number, value_of_text};
 ghost use Rattle.hb_lex.specs.Tokens.{AreInOrder, Stands, bytes_of, kind_of};
 ghost use Rattle.hb_lex.specs.declared.spans.Token.{Token};
 ghost use Rattle.hb_lex.specs.declared.faults.LexFail.{LexFail};
+ghost use Rattle.hb_lex.specs.Sizes.{greatest_number, longest_name, longest_text};
 
 use crate::kinds::TokenKind;
 
@@ -26,11 +27,11 @@ pub fn tokens_stand()
 /// The bytes of a token are of its kind and within the limits.
 pub fn bytes_are_of_kind()
     ensures number { (text : List ℕ) (token : Token) → Stands text token → token.kind ≡ TokenKind.Number
-        → (kind_of (bytes_of text token) ≡ Some TokenKind.Number) × (value_of_number (bytes_of text token) ≤ 9223372036854775807) }
+        → (kind_of (bytes_of text token) ≡ Some TokenKind.Number) × (value_of_number (bytes_of text token) ≤ greatest_number) }
     ensures literal { (text : List ℕ) (token : Token) → Stands text token → token.kind ≡ TokenKind.Text
-        → (kind_of (bytes_of text token) ≡ Some TokenKind.Text) × (length (value_of_text (bytes_of text token)) ≤ 1024) }
+        → (kind_of (bytes_of text token) ≡ Some TokenKind.Text) × (length (value_of_text (bytes_of text token)) ≤ longest_text) }
     ensures name { (text : List ℕ) (token : Token) → Stands text token → token.kind ≡ TokenKind.Name
-        → (kind_of (bytes_of text token) ≡ Some TokenKind.Name) × (length (bytes_of text token) ≤ 64) }
+        → (kind_of (bytes_of text token) ≡ Some TokenKind.Name) × (length (bytes_of text token) ≤ longest_name) }
     ensures class { (text : List ℕ) (token : Token) → Stands text token → token.kind ≡ TokenKind.ClassName
-        → (kind_of (bytes_of text token) ≡ Some TokenKind.ClassName) × (length (bytes_of text token) ≤ 64) }
+        → (kind_of (bytes_of text token) ≡ Some TokenKind.ClassName) × (length (bytes_of text token) ≤ longest_name) }
 {}

@@ -4,6 +4,7 @@ ghost use Rattle.std.specs.Iterator.{YieldsFirst, item_count};
 ghost use Rattle.hb_lex.specs.Bytes.{is_digit};
 ghost use Rattle.hb_lex.specs.Tokens.{kind_of};
 ghost use Rattle.hb_lex.specs.Literal.{escape_value, is_closed, is_text, text_fault, value_behind, value_of_number, value_of_text};
+ghost use Rattle.hb_lex.specs.Sizes.{greatest_number};
 
 use crate::bytes::{is_escape, is_plain};
 use crate::faults::LexFail;
@@ -135,7 +136,7 @@ pub(crate) fn checked_value(digits: &[u8]) -> Option<u64>
 #[tactic(auto, using(crate::proofs::Forms::number_digits))]
 pub fn number_value(literal: &[u8]) -> i64
     requires number { kind_of literal.now ≡ Some TokenKind.Number }
-    requires small { value_of_number literal.now ≤ 9223372036854775807 }
+    requires small { value_of_number literal.now ≤ greatest_number }
     ensures { result ≡ pos (value_of_number literal.now) }
 {
     checked_value(literal).unwrap() as i64

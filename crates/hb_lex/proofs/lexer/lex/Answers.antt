@@ -1,6 +1,5 @@
 use Rattle.std.proofs.Common.{sym, ◌∙◌, inr, arith}
-use Rattle.std.proofs.lemmas.Bool.{ne_eqb, eq-eqb}
-use Rattle.std.proofs.lemmas.Result.{err_from_is_err_and}
+use Rattle.std.proofs.{lemmas.Bool.ne_eqb, lemmas.Bool.eq-eqb, lemmas.Result.err_from_is_err_and}
 use Rattle.hb_lex.proofs.Runs.{Read-none, Read-blank, Read-comment, Read-line, Read-break, Read-token, Read-fault, Read-end, token-goes}
 use Rattle.hb_lex.proofs.lexer.lex.Goals as goal
 use Rattle.hb_lex.proofs.lexer.lex.Goals.{then-separates+in_ok-push, else-separates}

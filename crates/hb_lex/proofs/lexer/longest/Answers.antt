@@ -1,8 +1,6 @@
-use Rattle.std.proofs.Common.{sym, ◌∙◌}
+use Rattle.std.proofs.{Common.sym, Common.◌∙◌, lemmas.Result.err_from_is_err_and}
 use Rattle.std.proofs.lemmas.Bool.{or_from, ne_eqb, eq-eqb}
-use Rattle.std.proofs.lemmas.Result.{err_from_is_err_and}
-use Rattle.hb_lex.proofs.Signs.{mark_next, bad_byte}
-use Rattle.hb_lex.proofs.Texts.{text_next, text_none}
+use Rattle.hb_lex.proofs.{Signs.mark_next, Signs.bad_byte, Texts.text_next, Texts.text_none}
 use Rattle.hb_lex.proofs.lexer.longest.Goals as goal
 
 pub returns-in_err-n : goal.returns-in_err-n

@@ -1,5 +1,4 @@
-use Rattle.std.proofs.Common.{sym, ◌∙◌}
-use Rattle.std.proofs.lemmas.Bool.{ne_eqb, eq-eqb}
+use Rattle.std.proofs.{Common.sym, Common.◌∙◌, lemmas.Bool.ne_eqb, lemmas.Bool.eq-eqb}
 use Rattle.hb_lex.proofs.Closings.{Inside-escape, Inside-backslash, Inside-plain}
 use Rattle.hb_lex.proofs.literals.closing.Goals as goal
 use Rattle.hb_lex.proofs.literals.closing.Goals.{then-escaped+else-b-eq10+else-not-is_escape, else-escaped+else-b-eq34+then-b-eq92, else-escaped+else-b-eq34+else-b-eq92+else-b-eq10-2+else-not-is_plain}

@@ -1,7 +1,6 @@
 use Rattle.std.proofs.Common.{arith}
-use Rattle.hb_lex.proofs.Columns.{line_feed_next, other_next}
+use Rattle.hb_lex.proofs.{Columns.line_feed_next, Columns.other_next, places.place_behind.Goals.then-b-eq10, places.place_behind.Goals.else-b-eq10}
 use Rattle.hb_lex.proofs.places.place_behind.Goals as goal
-use Rattle.hb_lex.proofs.places.place_behind.Goals.{then-b-eq10, else-b-eq10}
 
 pub loop-b-preserved : goal.loop-b-preserved
 loop-b-preserved c =
