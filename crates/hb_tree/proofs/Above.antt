@@ -1,7 +1,6 @@
 -- The least number that is above each of a list: the measure of what is written of these nodes.
 use Rattle.std.proofs.Common.{ℕ, suc, zero, ◌<◌, ◌≤◌, List, [], ◌∷◌, max, length, get_or, arith}
-use Rattle.std.specs.Prelude.{All}
-use Rattle.std.specs.List.{AllByRecursion}
+use Rattle.std.specs.{Prelude.All, List.AllByRecursion}
 use Rattle.hb_types.specs.declared.ids.NodeId.{NodeId}
 use Rattle.hb_tree.specs.Nodes.{numbers_of}
 

@@ -1,22 +1,15 @@
 -- The canonical text of a program in which no node is reached twice is below 2^28 bytes.
 use Rattle.std.proofs.Common.{◌≡◌, subst, ℕ, zero, suc, ◌<◌, ◌≤◌, ◌+◌, ◌*◌, ◌^◌, List, [], ◌∷◌, ◌++◌, map, length, take, get_or, Option, Some, None, refl, sym, ap, ◌∙◌, arith, pos, negsuc, ◌≤ℤ◌, false}
-use Rattle.std.specs.Prelude.{slice_get, IfSome}
-use Rattle.std.specs.Option.{option_map}
-use Rattle.std.specs.List.{AllByRecursion, flat_map}
+use Rattle.std.specs.{Prelude.slice_get, Prelude.IfSome, Option.option_map, List.AllByRecursion, List.flat_map}
 use Rattle.std.proofs.lemmas.Option.{none-some, same_Some, slice_get-get_or, slice_get_within}
-use Rattle.std.proofs.lemmas.List.{take_more}
-use Rattle.std.proofs.Math.Seq.{take-length}
-use Rattle.hb_tree.specs.Spelling.{IsClassName}
-use Rattle.std.proofs.lemmas.Grind.{flat_map-append}
+use Rattle.std.proofs.{lemmas.List.take_more, Math.Seq.take-length, lemmas.Grind.flat_map-append}
 use Rattle.hb_lex.specs.declared.kinds.TokenKind.TheVariants as k
-use Rattle.hb_types.specs.declared.ids.NodeId.{NodeId}
-use Rattle.hb_types.specs.declared.ids.NameId.{NameId}
-use Rattle.hb_types.specs.declared.types.MethodTy.{MethodTy}
-use Rattle.hb_tree.specs.declared.node.Node.{Node}
+use Rattle.hb_types.specs.declared.{ids.NodeId.NodeId, ids.NameId.NameId, types.MethodTy.MethodTy}
+use Rattle.hb_tree.proofs.{Lists.each_append, Lists.past_none, Trees.tree_at_node, Trees.node_within, Known.program_founded}
+use Rattle.hb_tree.specs.{Spelling.IsClassName, Table.Table}
+use Rattle.hb_tree.specs.declared.{node.Node.Node, node.Placed.Placed}
 use Rattle.hb_tree.specs.declared.node.Node.TheVariants as node
 use Rattle.hb_tree.specs.declared.node.Method.TheVariants as method
-use Rattle.hb_tree.specs.declared.node.Placed.{Placed}
-use Rattle.hb_tree.specs.Table.{Table}
 use Rattle.hb_tree.specs.Tree.{Tree, TNil, TBlock}
 use Rattle.hb_tree.specs.Nodes.{numbers_of, args_of, items_of, node_at, block_in, parts_of, exprs_of, blocks_of}
 use Rattle.hb_tree.specs.TreeAt.{tree_at, tree_of, tree_of_place, tree_down, forest_at}
@@ -25,9 +18,6 @@ use Rattle.hb_tree.specs.Roots.{IsReachedOnce, roots, setup_root}
 use Rattle.hb_tree.specs.Pieces.{Piece, mark, line_end}
 use Rattle.hb_tree.specs.Canon.{own, each, wrap, least_left, least_right, op_kind, arguments, otherwise, separated, named, computed, parameters, signature, declares}
 use Rattle.hb_tree.specs.Canon.{name_piece, line, lines_of, class_line, setup_lines, script_lines, pieces_of, canon, bytes_at}
-use Rattle.hb_tree.proofs.Lists.{each_append, past_none}
-use Rattle.hb_tree.proofs.Trees.{tree_at_node, node_within}
-use Rattle.hb_tree.proofs.Known.{program_founded}
 use Rattle.hb_tree.proofs.Reached.{total, total-append, same, times, before, once_of_distinct, reached_once}
 use Rattle.hb_tree.proofs.Weights.{weight, weight-append, spell-le, quoted-le, number-le, name-le, class-le, text-le, op-le, declares-le, wrap-le, otherwise-le, separated-le, parameters-le, signature-le}
 

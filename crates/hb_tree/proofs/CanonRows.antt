@@ -1,13 +1,10 @@
 -- Worked rows of the canonical text: trees, and how they are written.
 use Rattle.std.proofs.Common.{◌++◌, pos, ◌≡◌, ℕ, List, [], ◌∷◌, None, false, true, refl}
-use Rattle.std.specs.Prelude.{codes, decimal}
-use Rattle.std.specs.List.{AllByRecursion}
+use Rattle.std.specs.{Prelude.codes, Prelude.decimal, List.AllByRecursion}
 use Rattle.hb_types.specs.declared.types.Ty.TheVariants as ty
+use Rattle.hb_tree.specs.{Table.Table, Pieces.spell, Canon.own}
 use Rattle.hb_tree.specs.declared.node.Op.TheVariants as op
-use Rattle.hb_tree.specs.Table.{Table}
 use Rattle.hb_tree.specs.Tree.{Tree, TNil, TTrue, TFalse, TSelf, TInt, TText, TVar, TNew, TAssign, TPrint, TToStr, TNot, TBinary, TIf, TWhile, TCall, TDef, TDefComputed, TDeclare, TDeclareComputed, TBlock, NoTree, Trees}
-use Rattle.hb_tree.specs.Pieces.{spell}
-use Rattle.hb_tree.specs.Canon.{own}
 
 -- a class `A`, names and a text, a body with two parameters and one with none, and a type
 abbrev table : Table

@@ -2,29 +2,18 @@
 use Rattle.std.proofs.Common.{◌≡◌, ℕ, zero, suc, ◌<◌, ◌≤◌, List, [], ◌∷◌, ◌++◌, map, length, take, arith, Option, Some, None, refl, sym, ap, ◌∙◌, true, false}
 use Rattle.std.specs.Prelude.{slice_get, Bool, IsSomeAnd, All, ◌==◌}
 use Rattle.std.specs.List.{AllByRecursion, flat_map}
-use Rattle.std.proofs.lemmas.List.Folds.{flat_map-map}
-use Rattle.std.proofs.lemmas.List.Elements.{All-from_recursion}
+use Rattle.std.proofs.{lemmas.List.Folds.flat_map-map, lemmas.List.Elements.All-from_recursion, lemmas.Option.slice_get_within}
 use Rattle.std.proofs.lemmas.Bool.{lt-ltb, le-ltb, eqb-true, eqb-false}
-use Rattle.std.proofs.lemmas.Option.{slice_get_within}
+use Rattle.hb_tree.specs.{Table.Table, Tree.Tree, Tree.TBlock, Nodes.block_in, Page.Page, Page.written, Forms.method_pieces, Forms.node_level}
 use Rattle.hb_tree.proofs.Pages.{written-nil}
 use Rattle.hb_lex.specs.declared.kinds.TokenKind.TheVariants as k
-use Rattle.hb_types.specs.declared.ids.BodySite.{BodySite}
-use Rattle.hb_types.specs.declared.ids.TypeSite.{TypeSite}
-use Rattle.hb_types.specs.declared.ids.NameId.{NameId}
-use Rattle.hb_types.specs.declared.ids.NodeId.{NodeId}
-use Rattle.hb_tree.specs.declared.node.Node.{Node}
+use Rattle.hb_types.specs.declared.{ids.BodySite.BodySite, ids.TypeSite.TypeSite, ids.NameId.NameId, ids.NodeId.NodeId}
+use Rattle.hb_tree.specs.declared.{node.Node.Node, node.Method.Method, parts.Body.Body}
 use Rattle.hb_tree.specs.declared.node.Node.TheVariants as node
-use Rattle.hb_tree.specs.declared.node.Method.{Method}
 use Rattle.hb_tree.specs.declared.node.Method.TheVariants as method
-use Rattle.hb_tree.specs.declared.parts.Body.{Body}
-use Rattle.hb_tree.specs.Table.{Table}
-use Rattle.hb_tree.specs.Tree.{Tree, TBlock}
-use Rattle.hb_tree.specs.Nodes.{block_in}
 use Rattle.hb_tree.specs.TreeAt.{tree_of, tree_at, forest_at}
 use Rattle.hb_tree.specs.Pieces.{Piece, mark, joined_paren}
-use Rattle.hb_tree.specs.Page.{Page, written}
 use Rattle.hb_tree.specs.Canon.{level, line, wrap, own, each, arguments, separated, otherwise, named, computed, parameters, parameters_of, name_piece, signature, declares}
-use Rattle.hb_tree.specs.Forms.{method_pieces, node_level}
 
 pub level-tree_of : (t : Table) (part : ℕ → Tree) (id : ℕ) (n : Node) → level (tree_of t part id n) ≡ node_level n
 level-tree_of t part id (node.Def (method.Named c m) s) = refl

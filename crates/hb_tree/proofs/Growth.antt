@@ -1,29 +1,19 @@
 -- What holds in a table still holds after the table has grown.
 use Rattle.std.proofs.Common.{◌⊎◌, inl, inr, ◌≡◌, ℕ, zero, suc, ◌+◌, ◌<◌, ◌≤◌, [], ◌∷◌, ◌++◌, length, Option, Some, None, refl, sym, ap, ◌∙◌, subst, arith}
-use Rattle.std.specs.Prelude.{slice_get}
-use Rattle.std.specs.Option.{option_map}
-use Rattle.std.specs.List.{AllByRecursion, flat_map}
-use Rattle.std.proofs.lemmas.Option.{none-some, same_Some}
-use Rattle.std.proofs.lemmas.List.Concat.{flat_map-append}
-use Rattle.hb_types.specs.declared.ids.NodeId.{NodeId}
-use Rattle.hb_types.specs.declared.ids.NameId.{NameId}
-use Rattle.hb_types.specs.declared.types.Ty.{Ty}
+use Rattle.std.specs.{Prelude.slice_get, Option.option_map, List.AllByRecursion, List.flat_map}
+use Rattle.std.proofs.{lemmas.Option.none-some, lemmas.Option.same_Some, lemmas.List.Concat.flat_map-append}
+use Rattle.hb_types.specs.declared.{ids.NodeId.NodeId, ids.NameId.NameId, types.Ty.Ty, types.MethodTy.MethodTy}
 use Rattle.hb_types.specs.declared.types.Ty.TheVariants as ty
-use Rattle.hb_types.specs.declared.types.MethodTy.{MethodTy}
 use Rattle.hb_types.specs.Types.{params_of as param_types_of}
-use Rattle.hb_tree.specs.declared.node.Node.{Node}
+use Rattle.hb_tree.specs.{Table.Table, Grows.Grows, Grows.IsFounded}
+use Rattle.hb_tree.specs.declared.{node.Node.Node, node.Method.Method, parts.Body.Body, node.Placed.Placed}
 use Rattle.hb_tree.specs.declared.node.Node.TheVariants as node
-use Rattle.hb_tree.specs.declared.node.Method.{Method}
 use Rattle.hb_tree.specs.declared.node.Method.TheVariants as method
-use Rattle.hb_tree.specs.declared.parts.Body.{Body}
-use Rattle.hb_tree.specs.declared.node.Placed.{Placed}
-use Rattle.hb_tree.specs.Table.{Table}
 use Rattle.hb_tree.specs.Tree.{Tree, TBlock, TDef, TDefComputed}
 use Rattle.hb_tree.specs.Nodes.{params_of, items_of, numbers_of, node_at, block_in, exprs_of, blocks_of, parts_of}
 use Rattle.hb_tree.specs.TreeAt.{forest_at, tree_of, tree_of_place, tree_down, tree_at}
 use Rattle.hb_tree.specs.Program.{HasPlaces, HasParts, IsMethodIn, IsKnownIn, IsNodeIn, IsExprNode, IsBlockNode, IsDefNode, IsDeclareNode, HasParams, IsBodyIn, IsTyIn}
 use Rattle.hb_tree.specs.Program.{IsMethodTyIn, IsTypeIn, IsRootIn, IsScriptIn, all_parts}
-use Rattle.hb_tree.specs.Grows.{Grows, IsFounded}
 use Rattle.hb_tree.proofs.Lists.{each_weaker, each_from, some_begins, flat_map_alike, length-begins, slice_get-within, slice_range-begins}
 use Rattle.hb_tree.proofs.Trees.{tree_alike, parts_weaker, node_within}
 

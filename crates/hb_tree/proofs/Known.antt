@@ -1,18 +1,15 @@
 -- What is known of the things that a program names.
 use Rattle.std.proofs.Common.{get_or, slice_get, subst, ap, ◌∙◌, map, arith, List, ◌≡◌, ℕ, ◌<◌, length, Option, Some, refl}
-use Rattle.hb_tree.specs.declared.node.Node.{Node}
+use Rattle.hb_tree.specs.{Table.Table, Tree.IsBlock, Grows.IsFounded}
+use Rattle.hb_tree.specs.declared.{node.Node.Node, node.Placed.Placed}
 use Rattle.hb_tree.specs.declared.node.Node.TheVariants as node
 use Rattle.std.specs.Option.{option_map, IfSome}
 use Rattle.std.proofs.lemmas.Option.{slice_get_read, slice_get-map, IfSome_then}
 use Rattle.std.proofs.lemmas.List.{length-map}
-use Rattle.hb_tree.specs.declared.node.Placed.{Placed}
-use Rattle.hb_tree.specs.Table.{Table}
-use Rattle.hb_tree.specs.Tree.{IsBlock}
 use Rattle.hb_tree.specs.Nodes.{node_at, exprs_of, blocks_of, AllParts}
 use Rattle.hb_tree.specs.TreeAt.{tree_of, tree_at, IsExprAt, IsBlockAt, HasKinds}
 use Rattle.hb_tree.specs.Program.{IsProgram, HasPlaces, IsKnownIn, IsExprNode, IsBlockNode, IsDeclareNode}
 use Rattle.hb_tree.specs.declared.node.Method.TheVariants as method
-use Rattle.hb_tree.specs.Grows.{IsFounded}
 use Rattle.hb_tree.proofs.Lists.{each_weaker}
 use Rattle.hb_tree.proofs.Trees.{tree_at_node, expr_seen, block_seen}
 

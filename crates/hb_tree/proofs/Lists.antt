@@ -4,11 +4,9 @@ use Rattle.std.specs.Prelude.{All, IsSomeAnd, nat_eq, false, slice_get, slice_ra
 use Rattle.std.specs.List.{AllByRecursion, flat_map, IsDistinct}
 use Rattle.std.proofs.lemmas.List.{take-append-le, drop-append-le, get_or_append_left}
 use Rattle.std.proofs.lemmas.Option.{slice_get-get_or, slice_get_within, slice_get_cases, none-some, same_Some}
-use Rattle.std.proofs.lemmas.Bool.{cases_lt}
-use Rattle.std.proofs.lemmas.List.Elements.{All-from_recursion}
+use Rattle.std.proofs.{lemmas.Bool.cases_lt, lemmas.List.Elements.All-from_recursion}
 use Rattle.hb_types.specs.declared.ids.NodeId.{NodeId}
-use Rattle.hb_tree.specs.Nodes.{numbers_of}
-use Rattle.hb_tree.specs.Grows.{BeginsWith}
+use Rattle.hb_tree.specs.{Nodes.numbers_of, Grows.BeginsWith}
 
 -- a weaker fact
 pub each_weaker : {X : Type 0} (P Q : X → Type 0) → ((x : X) → P x → Q x) → (xs : List X) → AllByRecursion P xs → AllByRecursion Q xs

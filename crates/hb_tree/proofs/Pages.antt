@@ -1,12 +1,9 @@
 -- Pages that go on.
 use Rattle.std.proofs.Common.{◌≡◌, ℕ, suc, ◌<◌, ◌≤◌, ◌+◌, ◌-◌, List, [], ◌∷◌, ◌++◌, map, length, take, drop, get_or, refl, sym, ap, ap₂, ◌∙◌, arith, append-nil, Bool}
 use Rattle.std.specs.Prelude.{if◌then◌else◌, ◌&&◌, All, OnOk, Result, Ok, Err, slice_get, Some}
-use Rattle.std.proofs.lemmas.List.{append_assoc, drop_more}
+use Rattle.std.proofs.{lemmas.List.append_assoc, lemmas.List.drop_more, Math.Seq.take-length, lemmas.List.Folds.flat_map-map, Math.ListN.drop_of_length-le}
 use Rattle.std.proofs.lemmas.Option.{slice_get-get_or, slice_get_within, same_Some}
-use Rattle.std.proofs.Math.Seq.{take-length}
-use Rattle.std.proofs.lemmas.List.Folds.{flat_map-map}
 use Rattle.std.specs.List.{flat_map}
-use Rattle.std.proofs.Math.ListN.{drop_of_length-le}
 use Rattle.hb_tree.specs.Pieces.{Piece, spell, spell_behind}
 use Rattle.hb_tree.specs.Canon.{separated}
 use Rattle.hb_tree.specs.Page.{Page, blank, spaced_behind, written}

@@ -1,22 +1,12 @@
 -- There are no more definitions than nodes.
 use Rattle.std.proofs.Common.{◌≡◌, ℕ, ◌<◌, ◌≤◌, List, [], ◌∷◌, length, map, get_or, true, false, eqb, Option, Some, None, refl, sym, ap, ◌∙◌, subst, arith, inl, inr, ◌||◌}
-use Rattle.std.specs.Prelude.{slice_get}
-use Rattle.std.specs.Option.{option_map}
-use Rattle.std.specs.List.{AllByRecursion, list_any}
-use Rattle.std.proofs.lemmas.List.{length-map}
-use Rattle.std.proofs.lemmas.Option.{slice_get-map, get_or_from_slice_get}
-use Rattle.std.proofs.lemmas.Bool.{ne_eqb}
-use Rattle.std.proofs.lemmas.Bool.Decides.{eqb_tells}
-use Rattle.std.proofs.lemmas.Map.Keys.{IsDistinct-from_apart}
-use Rattle.std.proofs.lemmas.Map.Steps.{length-le_from_distinct_below}
-use Rattle.hb_tree.specs.declared.node.Node.{Node}
+use Rattle.std.specs.{Prelude.slice_get, Option.option_map, List.AllByRecursion, List.list_any}
+use Rattle.std.proofs.{lemmas.List.length-map, lemmas.Option.slice_get-map, lemmas.Option.get_or_from_slice_get, lemmas.Bool.ne_eqb, lemmas.Bool.Decides.eqb_tells}
+use Rattle.std.proofs.{lemmas.Map.Keys.IsDistinct-from_apart, lemmas.Map.Steps.length-le_from_distinct_below}
+use Rattle.hb_tree.proofs.{Lists.each_from, Lists.past_none, Trees.node_within}
+use Rattle.hb_tree.specs.{Table.Table, Nodes.node_at, Program.IsProgram, Program.IsDefNode}
+use Rattle.hb_tree.specs.declared.{node.Node.Node, parts.Body.Body}
 use Rattle.hb_tree.specs.declared.node.Node.TheVariants as node
-use Rattle.hb_tree.specs.declared.parts.Body.{Body}
-use Rattle.hb_tree.specs.Table.{Table}
-use Rattle.hb_tree.specs.Nodes.{node_at}
-use Rattle.hb_tree.specs.Program.{IsProgram, IsDefNode}
-use Rattle.hb_tree.proofs.Lists.{each_from, past_none}
-use Rattle.hb_tree.proofs.Trees.{node_within}
 
 -- a definition has one site
 one_site : (i j : ℕ) (o : Option Node) → IsDefNode i o → IsDefNode j o → i ≡ j

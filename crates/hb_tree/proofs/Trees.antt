@@ -1,20 +1,15 @@
 -- The tree at a node is made of the trees at its parts.
 use Rattle.std.proofs.Common.{◌≡◌, length, ℕ, zero, suc, ◌<◌, List, [], ◌∷◌, Option, Some, None, refl, sym, ap, ◌∙◌, subst, arith}
-use Rattle.std.specs.Prelude.{slice_get}
-use Rattle.std.specs.Option.{option_map}
-use Rattle.std.specs.List.{AllByRecursion}
+use Rattle.std.specs.{Prelude.slice_get, Option.option_map, List.AllByRecursion}
 use Rattle.std.proofs.lemmas.Option.{slice_get_within, none-some}
 use Rattle.hb_types.specs.declared.ids.NodeId.{NodeId}
-use Rattle.hb_tree.specs.declared.node.Node.{Node}
+use Rattle.hb_tree.specs.{Table.Table, Program.IsExprNode, Program.IsBlockNode, Grows.IsFounded}
+use Rattle.hb_tree.specs.declared.{node.Node.Node, node.Placed.Placed}
 use Rattle.hb_tree.specs.declared.node.Node.TheVariants as node
 use Rattle.hb_tree.specs.declared.node.Method.TheVariants as method
-use Rattle.hb_tree.specs.declared.node.Placed.{Placed}
-use Rattle.hb_tree.specs.Table.{Table}
 use Rattle.hb_tree.specs.Tree.{Tree, TAssign, TPrint, TToStr, TNot, TBlock, TDef, TDeclareComputed, IsExpr, IsBlock, id_of}
 use Rattle.hb_tree.specs.Nodes.{args_of, items_of, numbers_of, node_at, exprs_of, blocks_of, AllParts}
 use Rattle.hb_tree.specs.TreeAt.{forest_at, tree_of, tree_of_place, tree_down, tree_at, IsExprAt, IsBlockAt}
-use Rattle.hb_tree.specs.Program.{IsExprNode, IsBlockNode}
-use Rattle.hb_tree.specs.Grows.{IsFounded}
 use Rattle.hb_tree.proofs.Lists.{each_weaker}
 
 -- two functions that are alike at these nodes make one list of trees

@@ -1,27 +1,20 @@
 -- How long pieces are when they are spelled.
 use Rattle.std.proofs.Common.{◌≡◌, ℕ, ◌<◌, ◌≤◌, ◌+◌, ◌*◌, ◌^◌, List, [], ◌∷◌, ◌++◌, map, length, take, Option, Some, None, refl, arith, length-append, Bool, true, false}
 use Rattle.std.specs.Prelude.{if◌then◌else◌, ◌&&◌, codes, slice_get, nat_eq, nat_lt}
-use Rattle.std.specs.List.{AllByRecursion, flat_map}
-use Rattle.std.specs.Fmt.{decimal}
-use Rattle.std.proofs.lemmas.List.{length-take, length-map}
-use Rattle.std.proofs.lemmas.Fmt.{length-decimal-le}
+use Rattle.std.specs.{List.AllByRecursion, List.flat_map, Fmt.decimal}
+use Rattle.std.proofs.{lemmas.List.length-take, lemmas.List.length-map, lemmas.Fmt.length-decimal-le}
 use Rattle.hb_lex.specs.declared.kinds.TokenKind.TheVariants as k
-use Rattle.hb_types.specs.declared.types.Ty.{Ty}
+use Rattle.hb_types.specs.declared.{types.Ty.Ty, types.MethodTy.MethodTy}
 use Rattle.hb_types.specs.declared.types.Ty.TheVariants as ty
-use Rattle.hb_types.specs.declared.types.MethodTy.{MethodTy}
 use Rattle.hb_types.specs.Types.{params_of as param_types_of}
-use Rattle.hb_tree.specs.declared.node.Op.{Op}
+use Rattle.hb_tree.proofs.{Lists.each_at, Reached.total, Reached.total-append}
+use Rattle.hb_tree.specs.{Table.Table, Nodes.params_of, Program.IsSpelled}
+use Rattle.hb_tree.specs.declared.{node.Op.Op, parts.Body.Body}
 use Rattle.hb_tree.specs.declared.node.Op.TheVariants as op
-use Rattle.hb_tree.specs.declared.parts.Body.{Body}
-use Rattle.hb_tree.specs.Table.{Table}
 use Rattle.hb_tree.specs.Tree.{Tree, TBlock, NoTree}
-use Rattle.hb_tree.specs.Nodes.{params_of}
 use Rattle.hb_tree.specs.Spelling.{IsName, IsClassName, IsText}
-use Rattle.hb_tree.specs.Program.{IsSpelled}
 use Rattle.hb_tree.specs.Pieces.{Piece, mark, joined_paren, spell_behind}
 use Rattle.hb_tree.specs.Canon.{escape, quoted, bytes_at, name_piece, type_piece, op_kind, declares, level, wrap, separated, signature_of, parameters_of, otherwise}
-use Rattle.hb_tree.proofs.Lists.{each_at}
-use Rattle.hb_tree.proofs.Reached.{total, total-append}
 
 -- the bytes of a piece and one for a space
 abbrev pub breadth : Piece → ℕ

@@ -1,24 +1,16 @@
 -- The canonical text of a program.
 use Rattle.std.specs.Prelude.{ℕ, ◌+◌, List, [], ◌∷◌, ◌++◌, map, Bool, nat_eq, nat_lt, if◌then◌else◌, codes, slice_get, Option, Some, None}
-use Rattle.std.specs.Option.{option_map, unwrap_or}
-use Rattle.std.specs.List.{flat_map}
-use Rattle.std.specs.Fmt.{signed_decimal}
+use Rattle.std.specs.{Option.option_map, Option.unwrap_or, List.flat_map, Fmt.signed_decimal}
 use Rattle.hb_lex.specs.declared.kinds.TokenKind.{TokenKind}
 use Rattle.hb_lex.specs.declared.kinds.TokenKind.TheVariants as k
-use Rattle.hb_types.specs.declared.ids.NameId.{NameId}
-use Rattle.hb_types.specs.declared.ids.NodeId.{NodeId}
-use Rattle.hb_types.specs.declared.types.Ty.{Ty}
+use Rattle.hb_types.specs.declared.{ids.NameId.NameId, ids.NodeId.NodeId, types.Ty.Ty, types.MethodTy.MethodTy}
 use Rattle.hb_types.specs.declared.types.Ty.TheVariants as ty
-use Rattle.hb_types.specs.declared.types.MethodTy.{MethodTy}
 use Rattle.hb_types.specs.Types.{params_of as param_types_of}
-use Rattle.hb_tree.specs.declared.node.Op.{Op}
+use Rattle.hb_tree.specs.{Table.Table, Nodes.params_of, TreeAt.tree_at}
+use Rattle.hb_tree.specs.declared.{node.Op.Op, parts.Body.Body}
 use Rattle.hb_tree.specs.declared.node.Op.TheVariants as op
-use Rattle.hb_tree.specs.declared.parts.Body.{Body}
-use Rattle.hb_tree.specs.Table.{Table}
-use Rattle.hb_tree.specs.Nodes.{params_of}
 use Rattle.hb_tree.specs.Tree.{Tree, TNil, TTrue, TFalse, TSelf, TInt, TText, TVar, TNew, TAssign, TPrint, TToStr, TNot, TBinary, TIf, TWhile, TCall, TDef, TDefComputed}
 use Rattle.hb_tree.specs.Tree.{TDeclare, TDeclareComputed, TBlock, Forest, NoTree, Trees}
-use Rattle.hb_tree.specs.TreeAt.{tree_at}
 use Rattle.hb_tree.specs.Pieces.{Piece, mark, joined_paren, line_end, word, spell}
 
 -- the bytes that stand for one of a text's

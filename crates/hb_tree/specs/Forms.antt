@@ -1,14 +1,10 @@
 -- The pieces of what a node names.
-use Rattle.std.specs.Prelude.{List}
-use Rattle.hb_tree.specs.declared.node.Method.{Method}
+use Rattle.std.specs.{Prelude.List, Prelude.ℕ}
+use Rattle.hb_tree.specs.{Table.Table, TreeAt.tree_at, Pieces.Piece}
+use Rattle.hb_tree.specs.declared.{node.Method.Method, node.Node.Node}
 use Rattle.hb_tree.specs.declared.node.Method.TheVariants as method
-use Rattle.hb_tree.specs.declared.node.Node.{Node}
 use Rattle.hb_tree.specs.declared.node.Node.TheVariants as node
-use Rattle.hb_tree.specs.Table.{Table}
-use Rattle.hb_tree.specs.TreeAt.{tree_at}
-use Rattle.hb_tree.specs.Pieces.{Piece}
 use Rattle.hb_tree.specs.Canon.{named, computed, own, op_level}
-use Rattle.std.specs.Prelude.{ℕ}
 
 abbrev pub method_pieces : Table → Method → List Piece
 method_pieces t (method.Named c m) = named t c.0 m.0

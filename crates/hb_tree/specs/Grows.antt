@@ -1,9 +1,7 @@
 -- How a table grows while a program is read.
 use Rattle.std.specs.Prelude.{◌≡◌, ℕ, List, ◌++◌, Some}
+use Rattle.hb_tree.specs.{Table.Table, Nodes.node_at, Program.HasParts}
 use Rattle.hb_tree.specs.declared.node.Node.{Node}
-use Rattle.hb_tree.specs.Table.{Table}
-use Rattle.hb_tree.specs.Nodes.{node_at}
-use Rattle.hb_tree.specs.Program.{HasParts}
 
 -- the second list begins with the first one
 abbrev pub BeginsWith : {X : Type 0} → List X → List X → Type 0

@@ -1,14 +1,10 @@
 -- The parts of a node, by their numbers.
 use Rattle.std.specs.Prelude.{ℕ, ◌+◌, List, [], ◌∷◌, ◌++◌, map, take, slice_get, slice_range, Option, Some, None}
-use Rattle.std.specs.Option.{option_map}
-use Rattle.std.specs.List.{AllByRecursion}
+use Rattle.std.specs.{Option.option_map, List.AllByRecursion}
 use Rattle.hb_types.specs.declared.ids.NodeId.{NodeId}
-use Rattle.hb_tree.specs.declared.node.Node.{Node}
+use Rattle.hb_tree.specs.declared.{node.Node.Node, node.Method.Method, node.ArgList.ArgList, parts.Body.Body}
 use Rattle.hb_tree.specs.declared.node.Node.TheVariants as node
-use Rattle.hb_tree.specs.declared.node.Method.{Method}
 use Rattle.hb_tree.specs.declared.node.Method.TheVariants as method
-use Rattle.hb_tree.specs.declared.node.ArgList.{ArgList}
-use Rattle.hb_tree.specs.declared.parts.Body.{Body}
 use Rattle.hb_tree.specs.Table.{Table}
 
 abbrev pub numbers_of : List NodeId → List ℕ

@@ -2,25 +2,18 @@
 use Rattle.std.specs.Prelude.{◌≡◌, ℕ, pos, ◌+◌, ◌^◌, ◌<◌, ◌≤◌, ◌≤ℤ◌, List, [], length, drop, All, slice_get, Option, Some, None, IsSomeAnd, IfSome, nat_eq, bytes_eq, FitsSigned}
 use Rattle.std.specs.Int.{w64}
 use Rattle.std.specs.List.{flat_map, IsDistinct, AllByRecursion}
-use Rattle.hb_types.specs.declared.types.TheConstants.{PARAMS_MAX}
-use Rattle.hb_tree.specs.declared.limits.TheConstants.{CLASSES_MAX, SCRIPTS_MAX, NODES_MAX, TYPES_MAX, HEIGHT_MAX, NODES_IN_BODY_MAX, CALLS_IN_BODY_MAX, VARIABLES_MAX, ARGUMENTS_MAX}
-use Rattle.hb_types.specs.declared.ids.NodeId.{NodeId}
-use Rattle.hb_types.specs.declared.ids.NameId.{NameId}
-use Rattle.hb_types.specs.declared.types.Ty.{Ty}
+use Rattle.hb_types.specs.declared.{types.TheConstants.PARAMS_MAX, ids.NodeId.NodeId, ids.NameId.NameId, types.Ty.Ty, types.MethodTy.MethodTy}
+use Rattle.hb_tree.specs.{Table.Table, TreeAt.tree_at}
+use Rattle.hb_tree.specs.declared.{limits.TheConstants.CLASSES_MAX, limits.TheConstants.SCRIPTS_MAX, limits.TheConstants.NODES_MAX, limits.TheConstants.TYPES_MAX}
+use Rattle.hb_tree.specs.declared.{limits.TheConstants.HEIGHT_MAX, limits.TheConstants.NODES_IN_BODY_MAX, limits.TheConstants.CALLS_IN_BODY_MAX, limits.TheConstants.VARIABLES_MAX}
+use Rattle.hb_tree.specs.declared.{limits.TheConstants.ARGUMENTS_MAX, node.Node.Node, node.Method.Method, node.ArgList.ArgList, parts.Body.Body}
 use Rattle.hb_types.specs.declared.types.Ty.TheVariants as ty
-use Rattle.hb_types.specs.declared.types.MethodTy.{MethodTy}
 use Rattle.hb_types.specs.Types.{IsMethodTy, params_of as param_types_of}
-use Rattle.hb_tree.specs.declared.node.Node.{Node}
 use Rattle.hb_tree.specs.declared.node.Node.TheVariants as node
-use Rattle.hb_tree.specs.declared.node.Method.{Method}
 use Rattle.hb_tree.specs.declared.node.Method.TheVariants as method
-use Rattle.hb_tree.specs.declared.node.ArgList.{ArgList}
-use Rattle.hb_tree.specs.declared.parts.Body.{Body}
 use Rattle.hb_tree.specs.Spelling.{IsName, IsClassName, IsText}
-use Rattle.hb_tree.specs.Table.{Table}
 use Rattle.hb_tree.specs.Counts.{height, nodes_in, calls_in, variables_in}
 use Rattle.hb_tree.specs.Nodes.{params_of, node_at, exprs_of, blocks_of, parts_of, AllParts}
-use Rattle.hb_tree.specs.TreeAt.{tree_at}
 
 -- a node that is a block, or an expression
 abbrev pub IsBlockNode : Option Node → Type 0

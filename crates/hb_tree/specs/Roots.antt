@@ -2,8 +2,7 @@
 use Rattle.std.specs.Prelude.{ℕ, List, [], ◌∷◌, ◌++◌, map, Option, Some, None, nat_eq}
 use Rattle.std.specs.List.{IsDistinct}
 use Rattle.hb_types.specs.declared.ids.NodeId.{NodeId}
-use Rattle.hb_tree.specs.Table.{Table}
-use Rattle.hb_tree.specs.Program.{all_parts}
+use Rattle.hb_tree.specs.{Table.Table, Program.all_parts}
 
 abbrev pub setup_root : Option NodeId → List ℕ
 setup_root None = []

@@ -1,11 +1,7 @@
 -- A program's parts as plain lists.
 use Rattle.std.specs.Prelude.{ℕ, List, map, Option}
-use Rattle.hb_types.specs.declared.ids.NodeId.{NodeId}
-use Rattle.hb_types.specs.declared.ids.NameId.{NameId}
-use Rattle.hb_types.specs.declared.types.MethodTy.{MethodTy}
-use Rattle.hb_tree.specs.declared.node.Placed.{Placed}
-use Rattle.hb_tree.specs.declared.parts.Body.{Body}
-use Rattle.hb_tree.specs.declared.parts.ProgramParts.{ProgramParts}
+use Rattle.hb_types.specs.declared.{ids.NodeId.NodeId, ids.NameId.NameId, types.MethodTy.MethodTy}
+use Rattle.hb_tree.specs.declared.{node.Placed.Placed, parts.Body.Body, parts.ProgramParts.ProgramParts}
 
 pub record Table : Type 0 where
   pub classes : List (List ℕ)

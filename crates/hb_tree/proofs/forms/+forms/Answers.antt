@@ -1,9 +1,7 @@
 use Rattle.std.proofs.Common.{◌≡◌, ◌<◌, ◌∷◌, ◌-◌, ◌∙◌, take, drop, length, sym, ap, refl, arith}
 use Rattle.std.specs.List.{flat_map}
+use Rattle.hb_tree.specs.{TreeAt.tree_at, TreeAt.IsExprAt, Pieces.mark, Canon.level, Canon.own}
 use Rattle.hb_tree.specs.Nodes.{numbers_of, args_of, name_parts}
-use Rattle.hb_tree.specs.TreeAt.{tree_at, IsExprAt}
-use Rattle.hb_tree.specs.Pieces.{mark}
-use Rattle.hb_tree.specs.Canon.{level, own}
 use Rattle.hb_tree.proofs.Lists.{All-numbers_of}
 use Rattle.hb_tree.proofs.Above.{above, above-le, above-all, below-above}
 use Rattle.hb_tree.proofs.Pages.{wrote, wrote_last, written-nil, rest_all, walk_step, separated_none, separated_whole}

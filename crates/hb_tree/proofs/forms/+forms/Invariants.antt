@@ -1,11 +1,7 @@
 use Rattle.std.proofs.Common.{◌≡◌, ◌+◌, ◌*◌, ◌∷◌, [], drop}
-use Rattle.std.specs.Prelude.{slice_get}
-use Rattle.std.specs.List.{flat_map}
+use Rattle.std.specs.{Prelude.slice_get, List.flat_map}
+use Rattle.hb_tree.specs.{TreeAt.tree_at, Pieces.mark, Canon.own, Page.written}
 use Rattle.hb_tree.specs.Nodes.{numbers_of, name_parts, block_in}
-use Rattle.hb_tree.specs.TreeAt.{tree_at}
-use Rattle.hb_tree.specs.Pieces.{mark}
-use Rattle.hb_tree.specs.Canon.{own}
-use Rattle.hb_tree.specs.Page.{written}
 use Rattle.hb_tree.proofs.Above.{above}
 use Rattle.hb_tree.proofs.forms.+forms.Given as goal
 

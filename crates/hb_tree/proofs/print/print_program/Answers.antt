@@ -1,7 +1,6 @@
 use Rattle.std.proofs.Common.{◌≡◌, ◌∙◌, ◌<◌, ◌^◌, subst, sym, length}
+use Rattle.hb_tree.proofs.{Pages.wrote, Pages.text_of_written, CanonLemmas.canon-short}
 use Rattle.hb_tree.specs.Canon.{pieces_of, canon}
-use Rattle.hb_tree.proofs.Pages.{wrote, text_of_written}
-use Rattle.hb_tree.proofs.CanonLemmas.{canon-short}
 use Rattle.hb_tree.proofs.print.print_program.Goals as goal
 
 pub returns : goal.returns

@@ -1,7 +1,6 @@
 use Rattle.std.proofs.Common.{◌≡◌, drop}
 use Rattle.std.specs.List.{flat_map}
-use Rattle.hb_tree.specs.Canon.{class_line}
-use Rattle.hb_tree.specs.Page.{written}
+use Rattle.hb_tree.specs.{Canon.class_line, Page.written}
 use Rattle.hb_tree.proofs.print.push_classes.Given as goal
 
 abbrev pub invariant-loop-class : goal.invariant-loop-class

@@ -1,7 +1,6 @@
 use Rattle.std.proofs.Common.{refl}
 use Rattle.std.specs.List.{flat_map}
-use Rattle.hb_tree.specs.TreeAt.{tree_at}
-use Rattle.hb_tree.specs.Canon.{line, own}
+use Rattle.hb_tree.specs.{TreeAt.tree_at, Canon.line, Canon.own}
 use Rattle.hb_tree.proofs.Pages.{wrote, wrote_last, walk_step, walk_end}
 use Rattle.hb_tree.proofs.FormLemmas.{lines-each}
 use Rattle.hb_tree.proofs.print.push_lines.Goals as goal

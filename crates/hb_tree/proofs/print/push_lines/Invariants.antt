@@ -1,8 +1,6 @@
 use Rattle.std.proofs.Common.{◌≡◌, drop}
 use Rattle.std.specs.List.{flat_map}
-use Rattle.hb_tree.specs.TreeAt.{tree_at}
-use Rattle.hb_tree.specs.Canon.{line, own}
-use Rattle.hb_tree.specs.Page.{written}
+use Rattle.hb_tree.specs.{TreeAt.tree_at, Canon.line, Canon.own, Page.written}
 use Rattle.hb_tree.proofs.print.push_lines.Given as goal
 
 abbrev pub invariant-loop-item : goal.invariant-loop-item

@@ -1,7 +1,6 @@
 use Rattle.std.proofs.Common.{◌≡◌, drop}
 use Rattle.std.specs.List.{flat_map}
-use Rattle.hb_tree.specs.Canon.{script_lines}
-use Rattle.hb_tree.specs.Page.{written}
+use Rattle.hb_tree.specs.{Canon.script_lines, Page.written}
 use Rattle.hb_tree.proofs.print.push_scripts.Given as goal
 
 abbrev pub invariant-loop-i : goal.invariant-loop-i

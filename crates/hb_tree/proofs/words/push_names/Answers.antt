@@ -1,8 +1,7 @@
 use Rattle.std.proofs.Common.{◌∷◌, [], ◌-◌, take, drop, length, refl, arith}
 use Rattle.std.specs.List.{flat_map}
 use Rattle.hb_lex.specs.declared.kinds.TokenKind.TheVariants as kind
-use Rattle.hb_tree.specs.Pieces.{mark}
-use Rattle.hb_tree.specs.Canon.{name_piece}
+use Rattle.hb_tree.specs.{Pieces.mark, Canon.name_piece}
 use Rattle.hb_tree.proofs.Pages.{wrote, walk_step, separated_none, separated_whole}
 use Rattle.hb_tree.proofs.words.push_names.Goals as goal
 

@@ -1,9 +1,7 @@
 use Rattle.std.proofs.Common.{◌≡◌, ◌∷◌, [], drop}
 use Rattle.std.specs.List.{flat_map}
 use Rattle.hb_lex.specs.declared.kinds.TokenKind.TheVariants as kind
-use Rattle.hb_tree.specs.Pieces.{mark}
-use Rattle.hb_tree.specs.Canon.{name_piece}
-use Rattle.hb_tree.specs.Page.{written}
+use Rattle.hb_tree.specs.{Pieces.mark, Canon.name_piece, Page.written}
 use Rattle.hb_tree.proofs.words.push_names.Given as goal
 
 abbrev pub invariant-loop-name : goal.invariant-loop-name

@@ -1,7 +1,6 @@
 use Rattle.std.proofs.Common.{◌<◌, ◌∙◌, ap, length}
+use Rattle.hb_tree.proofs.{Pages.wrote, Pages.wrote_last, FormLemmas.all_taken, FormLemmas.parameters-some}
 use Rattle.hb_tree.specs.Canon.{parameters_of}
-use Rattle.hb_tree.proofs.Pages.{wrote, wrote_last}
-use Rattle.hb_tree.proofs.FormLemmas.{all_taken, parameters-some}
 use Rattle.hb_tree.proofs.words.push_parameters.Goals as goal
 
 pub push_names-requires : goal.push_names-requires

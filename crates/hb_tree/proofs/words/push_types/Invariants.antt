@@ -1,9 +1,7 @@
 use Rattle.std.proofs.Common.{◌≡◌, ◌∷◌, [], drop}
 use Rattle.std.specs.List.{flat_map}
 use Rattle.hb_lex.specs.declared.kinds.TokenKind.TheVariants as kind
-use Rattle.hb_tree.specs.Pieces.{mark}
-use Rattle.hb_tree.specs.Canon.{type_piece}
-use Rattle.hb_tree.specs.Page.{written}
+use Rattle.hb_tree.specs.{Pieces.mark, Canon.type_piece, Page.written}
 use Rattle.hb_tree.proofs.words.push_types.Given as goal
 
 abbrev pub invariant-loop-ty : goal.invariant-loop-ty

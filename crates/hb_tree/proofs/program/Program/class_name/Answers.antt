@@ -1,8 +1,6 @@
 use Rattle.std.proofs.Common.{subst, refl}
-use Rattle.hb_tree.specs.Program.{IsProgram}
-use Rattle.hb_tree.specs.Spelling.{IsClassName}
-use Rattle.hb_tree.proofs.Lists.{each_at}
-use Rattle.hb_tree.proofs.Known.{got_view}
+use Rattle.hb_tree.proofs.{Lists.each_at, Known.got_view}
+use Rattle.hb_tree.specs.{Program.IsProgram, Spelling.IsClassName}
 use Rattle.hb_tree.proofs.program.Program.class_name.Goals as goal
 
 pub returns : goal.returns

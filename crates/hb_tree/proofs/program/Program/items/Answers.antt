@@ -1,8 +1,5 @@
 use Rattle.std.proofs.Common.{◌≡◌, ◌+◌, ◌≤◌, ◌<◌, length, slice_range, Some, subst, ap, sym, ◌∙◌}
-use Rattle.hb_tree.specs.Tree.{IsBlock}
-use Rattle.hb_tree.specs.Nodes.{items_of}
-use Rattle.hb_tree.specs.Program.{IsProgram}
-use Rattle.hb_tree.specs.TreeAt.{IsExprAt}
+use Rattle.hb_tree.specs.{Tree.IsBlock, Nodes.items_of, Program.IsProgram, TreeAt.IsExprAt}
 use Rattle.hb_tree.proofs.Lists.{All-numbers_of}
 use Rattle.hb_tree.proofs.Known.{got_node, node_read, block_only}
 use Rattle.hb_tree.proofs.program.Program.items.Goals as goal

@@ -1,8 +1,6 @@
 use Rattle.std.proofs.Common.{subst}
-use Rattle.hb_tree.specs.Program.{IsProgram}
-use Rattle.hb_tree.specs.Program.{IsScriptIn}
-use Rattle.hb_tree.proofs.Lists.{each_at}
-use Rattle.hb_tree.proofs.Known.{got, block_known}
+use Rattle.hb_tree.proofs.{Lists.each_at, Known.got, Known.block_known}
+use Rattle.hb_tree.specs.{Program.IsProgram, Program.IsScriptIn}
 use Rattle.hb_tree.proofs.program.Program.script.Goals as goal
 
 pub returns : goal.returns
