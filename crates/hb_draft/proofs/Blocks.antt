@@ -4,20 +4,14 @@ use Rattle.std.specs.List.{AllByRecursion}
 use Rattle.std.proofs.lemmas.List.{append-nil, take-append-drop, map-append, drop_at, take_all}
 use Rattle.std.proofs.lemmas.Option.{none-some}
 use Rattle.hb_types.specs.declared.ids.NodeId.{NodeId}
+use Rattle.hb_tree.specs.{Table.Table, Tree.TBlock, Nodes.numbers_of, Nodes.items_of, TreeAt.tree_at, TreeAt.forest_at}
 use Rattle.hb_tree.specs.declared.node.Node.TheVariants as node
 use Rattle.hb_tree.specs.declared.node.Placed.{Placed}
-use Rattle.hb_tree.specs.Table.{Table}
-use Rattle.hb_tree.specs.Tree.{TBlock}
-use Rattle.hb_tree.specs.Nodes.{numbers_of, items_of}
-use Rattle.hb_tree.specs.TreeAt.{tree_at, forest_at}
+use Rattle.hb_draft.proofs.{Lists.each-back, Puts.hand_after, Hands.hand-exprs, Hands.forest-hand, Steps.placed_at, Steps.enough_nodes}
 use Rattle.hb_draft.specs.Kept.{IsDraft, IsKept, heights_of, heights_after}
 use Rattle.hb_draft.specs.Put.{IsOver, last_nodes}
 use Rattle.hb_draft.specs.Unfinished.{Unfinished, HasExprs, KeepsRoots, Puts, in_hand, trees_of, block_over}
-use Rattle.hb_draft.proofs.Lists.{each-back}
 use Rattle.hb_draft.proofs.Append.{appended, same_texts, IsNext, kept-next, hand-next, roots-next}
-use Rattle.hb_draft.proofs.Puts.{hand_after}
-use Rattle.hb_draft.proofs.Hands.{hand-exprs, forest-hand}
-use Rattle.hb_draft.proofs.Steps.{placed_at, enough_nodes}
 
 -- the table with a block more, whose items are these
 abbrev pub with_block : Table → List NodeId → Placed → Table

@@ -1,33 +1,23 @@
 -- A definition and a declaration whose method's name is computed by an expression in hand.
 use Rattle.std.proofs.Common.{◌≡◌, ℕ, ◌<◌, ◌≤◌, List, [], ◌∷◌, ◌++◌, drop, length, length-append, Some, Bool, refl, sym, ap, ◌∙◌, subst, arith, add-zero, IsSomeAnd, option_map}
-use Rattle.std.specs.Prelude.{slice_get}
-use Rattle.std.specs.List.{AllByRecursion}
-use Rattle.std.proofs.lemmas.List.{append-nil}
-use Rattle.std.proofs.lemmas.Option.{none-some}
-use Rattle.hb_types.specs.declared.ids.NodeId.{NodeId}
-use Rattle.hb_types.specs.declared.ids.ClassId.{ClassId}
-use Rattle.hb_types.specs.declared.types.MethodTy.{MethodTy}
-use Rattle.hb_tree.specs.declared.node.Node.{Node}
+use Rattle.std.specs.{Prelude.slice_get, List.AllByRecursion}
+use Rattle.std.proofs.{lemmas.List.append-nil, lemmas.Option.none-some}
+use Rattle.hb_types.specs.declared.{ids.NodeId.NodeId, ids.ClassId.ClassId, types.MethodTy.MethodTy}
+use Rattle.hb_tree.proofs.{Trees.id_of-tree_at, Growth.tree_at-grown}
+use Rattle.hb_tree.specs.{Table.Table, TreeAt.tree_at}
+use Rattle.hb_tree.specs.declared.{node.Node.Node, node.Placed.Placed, parts.Body.Body}
 use Rattle.hb_tree.specs.declared.node.Node.TheVariants as node
 use Rattle.hb_tree.specs.declared.node.Method.TheVariants as method
-use Rattle.hb_tree.specs.declared.node.Placed.{Placed}
-use Rattle.hb_tree.specs.declared.parts.Body.{Body}
-use Rattle.hb_tree.specs.Table.{Table}
 use Rattle.hb_tree.specs.Tree.{Tree, IsBlock, TDefComputed, TDeclareComputed}
 use Rattle.hb_tree.specs.Nodes.{numbers_of, params_of, block_in, node_at}
-use Rattle.hb_tree.specs.TreeAt.{tree_at}
 use Rattle.hb_tree.specs.Program.{IsBodyIn, IsTypeIn, IsMethodTyIn, IsDefNode, IsDeclareNode}
-use Rattle.hb_tree.proofs.Trees.{id_of-tree_at}
-use Rattle.hb_tree.proofs.Growth.{tree_at-grown}
+use Rattle.hb_draft.proofs.{Lists.slice_get-last, Lists.slice_get-single, Puts.hand_after, Sites.with_body, Sites.with_type}
 use Rattle.hb_draft.specs.Kept.{IsDraft, IsKept, heights_of, heights_after}
 use Rattle.hb_draft.specs.Put.{IsOver, last_nodes}
 use Rattle.hb_draft.specs.Unfinished.{Unfinished, IsExprPart, IsBlockPart, HasExprs, HasNameAndBlock, IsBodyBlock, AreParams, KeepsRoots, PutsComputedDef, PutsComputedDeclare, in_hand, trees_of, unary_over}
-use Rattle.hb_draft.proofs.Lists.{slice_get-last, slice_get-single}
 use Rattle.hb_draft.proofs.Append.{appended, appended-grows, founded, same_texts, has_parts, block_part, IsNext, kept-next, hand-next, roots-next}
-use Rattle.hb_draft.proofs.Puts.{hand_after}
 use Rattle.hb_draft.proofs.Hands.{length-hand, next-hand, hand-exprs, last_one, last_two}
 use Rattle.hb_draft.proofs.Steps.{placed_at, two_on_top, enough_nodes}
-use Rattle.hb_draft.proofs.Sites.{with_body, with_type}
 
 has_two : (P : Tree → Type 0) (ts : List Tree) → HasNameAndBlock P ts → 2 ≤ length ts
 has_two P (b ∷ e ∷ ts) h = omega arith

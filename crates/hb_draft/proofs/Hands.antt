@@ -1,19 +1,14 @@
 -- The trees in hand: the last ones, and those below them.
 use Rattle.std.proofs.Common.{◌≡◌, ℕ, ◌+◌, ◌-◌, ◌<◌, ◌≤◌, List, [], ◌∷◌, ◌++◌, map, reverse, take, drop, length, length-drop, refl, sym, ap, ◌∙◌, subst, arith, append_assoc, get_or, option_map, Some}
-use Rattle.std.specs.Prelude.{slice_get}
-use Rattle.std.specs.List.{AllByRecursion}
+use Rattle.std.specs.{Prelude.slice_get, List.AllByRecursion}
 use Rattle.std.proofs.lemmas.List.{append-nil, take-append-drop, map-append, reverse-append, reverse-reverse, take_at, drop_at, drop_all, length-map, length-reverse, get_or-reverse}
-use Rattle.std.proofs.lemmas.Option.{slice_get-map, slice_get_read}
-use Rattle.std.proofs.lemmas.List.Elements.{All-from_recursion, recursion_from_All}
+use Rattle.std.proofs.{lemmas.Option.slice_get-map, lemmas.Option.slice_get_read, lemmas.List.Elements.All-from_recursion, lemmas.List.Elements.recursion_from_All}
 use Rattle.std.proofs.lemmas.List.Sorted.{All-permutation, IsPermutation-reverse, IsPermutation-sym}
 use Rattle.hb_types.specs.declared.ids.NodeId.{NodeId}
+use Rattle.hb_tree.specs.{Table.Table, Tree.Tree, Tree.Trees, Counts.height, Program.HasPlaces, Program.IsKnownIn}
 use Rattle.hb_tree.specs.declared.node.Placed.{Placed}
-use Rattle.hb_tree.specs.Table.{Table}
-use Rattle.hb_tree.specs.Tree.{Tree, Trees}
-use Rattle.hb_tree.specs.Counts.{height}
 use Rattle.hb_tree.specs.Nodes.{numbers_of, exprs_of, blocks_of}
 use Rattle.hb_tree.specs.TreeAt.{tree_at, tree_of, forest_at}
-use Rattle.hb_tree.specs.Program.{HasPlaces, IsKnownIn}
 use Rattle.hb_draft.specs.Kept.{IsKept, heights_of}
 use Rattle.hb_draft.specs.Put.{CanPut, PutsNode, with_node, last_nodes}
 use Rattle.hb_draft.specs.Unfinished.{Unfinished, IsExprPart, HasExprs, Puts, in_hand, trees_of, last_in, forest_of}

@@ -4,12 +4,10 @@ use Rattle.std.specs.List.{AllByRecursion}
 use Rattle.std.proofs.lemmas.List.{take-append-drop, take_all, length-map}
 use Rattle.std.proofs.lemmas.Option.{slice_get_cases}
 use Rattle.hb_types.specs.declared.ids.NodeId.{NodeId}
+use Rattle.hb_tree.specs.{Table.Table, Tree.Tree, Counts.height, Counts.highest}
 use Rattle.hb_tree.specs.declared.node.Node.{Node}
 use Rattle.hb_tree.specs.declared.node.Node.TheVariants as node
 use Rattle.hb_tree.specs.declared.node.Method.TheVariants as method
-use Rattle.hb_tree.specs.Table.{Table}
-use Rattle.hb_tree.specs.Tree.{Tree}
-use Rattle.hb_tree.specs.Counts.{height, highest}
 use Rattle.hb_tree.specs.Nodes.{args_of, items_of, numbers_of, parts_of}
 use Rattle.hb_tree.specs.TreeAt.{forest_at, tree_of, tree_at}
 use Rattle.hb_draft.specs.Kept.{IsKept, greatest, heights_of}

@@ -1,20 +1,16 @@
 -- What each step adds to what a program under construction says.
 use Rattle.std.proofs.Common.{◌≡◌, ℕ, List, [], ◌∷◌, ◌++◌, map, length, Bool, refl, sym, ap, ◌∙◌, subst}
 use Rattle.std.proofs.lemmas.List.{map-append, length-map}
-use Rattle.hb_types.specs.declared.ids.NodeId.{NodeId}
-use Rattle.hb_types.specs.declared.types.MethodTy.{MethodTy}
-use Rattle.hb_tree.specs.declared.node.Node.{Node}
-use Rattle.hb_tree.specs.declared.parts.Body.{Body}
+use Rattle.hb_types.specs.declared.{ids.NodeId.NodeId, types.MethodTy.MethodTy}
+use Rattle.hb_tree.specs.declared.{node.Node.Node, parts.Body.Body}
 use Rattle.hb_tree.specs.Tree.{Tree, TText, TDef, TDeclare, TDeclareComputed}
 use Rattle.hb_tree.specs.TreeAt.{tree_at, tree_of}
-use Rattle.hb_draft.specs.Put.{PutsNode}
+use Rattle.hb_draft.proofs.{Steps.placed_at, Hands.puts}
+use Rattle.hb_draft.specs.{Put.PutsNode, Words.with_word}
 use Rattle.hb_draft.specs.Unfinished.{Unfinished, AddsNode, IsBodyOf, AddsClass, AddsName, Puts, PutsText, PutsDef, PutsComputedDef, PutsDeclare, PutsComputedDeclare}
 use Rattle.hb_draft.specs.Unfinished.{AddsSetup, AddsScript, in_hand, leaf_over, unary_over}
-use Rattle.hb_draft.specs.Words.{with_word}
 use Rattle.hb_draft.specs.Made.{Made, Given, place_of, given_by, type_of, made_of, word_number, with_class, with_name, with_node, with_text, with_body, with_type, with_def}
 use Rattle.hb_draft.specs.Made.{with_computed_def, def_computed_over, with_declare, with_computed_declare, with_setup, setup_from, with_script, script_from, id_on_top}
-use Rattle.hb_draft.proofs.Steps.{placed_at}
-use Rattle.hb_draft.proofs.Hands.{puts}
 
 -- what is made of lists that are equal is equal
 made_alike : (m n : Made) → m.classes ≡ n.classes → m.names ≡ n.names → m.texts ≡ n.texts → m.places ≡ n.places → m.bodies ≡ n.bodies

@@ -1,23 +1,17 @@
 -- The parts of a node: what their trees say of the node.
 use Rattle.std.proofs.Common.{◌≡◌, ℕ, ◌<◌, ◌≤◌, List, [], ◌∷◌, Option, Some, None, refl, sym, ap, ◌∙◌, subst, arith, length, inl, inr}
-use Rattle.std.specs.Prelude.{slice_get}
-use Rattle.std.specs.Option.{option_map}
-use Rattle.std.specs.List.{AllByRecursion}
+use Rattle.std.specs.{Prelude.slice_get, Option.option_map, List.AllByRecursion}
 use Rattle.std.proofs.lemmas.Option.{slice_get_cases, none-some}
 use Rattle.hb_types.specs.declared.ids.NodeId.{NodeId}
-use Rattle.hb_tree.specs.declared.node.Node.{Node}
+use Rattle.hb_tree.proofs.{Lists.each_from, Lists.each_weaker, Trees.tree_at_node, Trees.node_within}
+use Rattle.hb_tree.specs.{Table.Table, Counts.height, Counts.highest, Grows.IsFounded}
+use Rattle.hb_tree.specs.declared.{node.Node.Node, node.Placed.Placed}
 use Rattle.hb_tree.specs.declared.node.Node.TheVariants as node
 use Rattle.hb_tree.specs.declared.node.Method.TheVariants as method
-use Rattle.hb_tree.specs.declared.node.Placed.{Placed}
-use Rattle.hb_tree.specs.Table.{Table}
 use Rattle.hb_tree.specs.Tree.{Tree, IsExpr, IsBlock}
-use Rattle.hb_tree.specs.Counts.{height, highest}
 use Rattle.hb_tree.specs.Nodes.{args_of, items_of, numbers_of, node_at, exprs_of, blocks_of, parts_of, AllParts}
 use Rattle.hb_tree.specs.TreeAt.{forest_at, tree_of, tree_at}
 use Rattle.hb_tree.specs.Program.{IsExprNode, IsBlockNode, all_parts}
-use Rattle.hb_tree.specs.Grows.{IsFounded}
-use Rattle.hb_tree.proofs.Lists.{each_from, each_weaker}
-use Rattle.hb_tree.proofs.Trees.{tree_at_node, node_within}
 use Rattle.hb_draft.proofs.Lists.{each-append, each-flat_map}
 
 highest-forest : (f : ℕ → Tree) (is : List NodeId) → AllByRecursion (λ j. height (f j) < 256) (numbers_of is) → highest (forest_at f is) < 256

@@ -1,11 +1,9 @@
 -- The next node, with neither a body nor a type.
 use Rattle.std.proofs.Common.{◌≡◌, ℕ, ◌-◌, List, [], ◌∷◌, ◌++◌, take, drop, length, refl, sym, subst, arith}
-use Rattle.std.proofs.lemmas.List.{append-nil}
-use Rattle.std.proofs.lemmas.Option.{none-some}
+use Rattle.std.proofs.{lemmas.List.append-nil, lemmas.Option.none-some}
 use Rattle.hb_types.specs.declared.ids.NodeId.{NodeId}
+use Rattle.hb_tree.specs.{Table.Table, TreeAt.tree_at, TreeAt.tree_of}
 use Rattle.hb_tree.specs.declared.node.Placed.{Placed}
-use Rattle.hb_tree.specs.Table.{Table}
-use Rattle.hb_tree.specs.TreeAt.{tree_at, tree_of}
 use Rattle.hb_draft.specs.Kept.{IsDraft, IsKept, heights_of, heights_after}
 use Rattle.hb_draft.specs.Put.{IsOver, CanPut, PutsNode, with_node}
 use Rattle.hb_draft.specs.Unfinished.{Unfinished, KeepsRoots, in_hand, trees_of}

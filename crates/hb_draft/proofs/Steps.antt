@@ -1,13 +1,8 @@
 -- What each node over expressions asks of the hand, and what it makes of it.
 use Rattle.std.proofs.Common.{◌≡◌, ℕ, ◌+◌, ◌<◌, ◌≤◌, List, [], ◌∷◌, drop, length, refl, sym, ap, ◌∙◌, subst, arith}
-use Rattle.hb_types.specs.declared.ids.NodeId.{NodeId}
-use Rattle.hb_types.specs.declared.ids.NameId.{NameId}
-use Rattle.hb_tree.specs.declared.node.ArgList.{ArgList}
-use Rattle.hb_tree.specs.declared.node.Op.{Op}
-use Rattle.hb_tree.specs.declared.node.Node.{Node}
+use Rattle.hb_types.specs.declared.{ids.NodeId.NodeId, ids.NameId.NameId}
+use Rattle.hb_tree.specs.declared.{node.ArgList.ArgList, node.Op.Op, node.Node.Node, node.Placed.Placed, limits.TheConstants.NODES_MAX}
 use Rattle.hb_tree.specs.declared.node.Node.TheVariants as node
-use Rattle.hb_tree.specs.declared.node.Placed.{Placed}
-use Rattle.hb_tree.specs.declared.limits.TheConstants.{NODES_MAX}
 use Rattle.hb_tree.specs.Tree.{Tree, TCall}
 use Rattle.hb_tree.specs.Nodes.{numbers_of, args_of, exprs_of, blocks_of}
 use Rattle.hb_tree.specs.TreeAt.{tree_at, tree_of, forest_at}

@@ -1,24 +1,17 @@
 -- A text, which is numbered by its first occurrence.
 use Rattle.std.proofs.Common.{◌≡◌, ℕ, ◌<◌, List, [], ◌∷◌, ◌++◌, length, Some, refl, sym, ap, subst, arith}
 use Rattle.std.specs.Prelude.{slice_get}
-use Rattle.std.proofs.lemmas.List.{append-nil}
-use Rattle.std.proofs.lemmas.Option.{none-some, slice_get_within}
+use Rattle.std.proofs.{lemmas.List.append-nil, lemmas.Option.none-some, lemmas.Option.slice_get_within}
 use Rattle.hb_types.specs.declared.ids.NodeId.{NodeId}
-use Rattle.hb_tree.specs.Spelling.{IsText}
+use Rattle.hb_tree.specs.{Spelling.IsText, Table.Table, Tree.TText, Nodes.numbers_of}
 use Rattle.hb_tree.specs.declared.node.Node.TheVariants as node
 use Rattle.hb_tree.specs.declared.node.Placed.{Placed}
-use Rattle.hb_tree.specs.Table.{Table}
-use Rattle.hb_tree.specs.Tree.{TText}
-use Rattle.hb_tree.specs.Nodes.{numbers_of}
+use Rattle.hb_draft.proofs.{Puts.hand_after, Hands.last_none, Steps.placed_at}
+use Rattle.hb_draft.specs.{Put.IsOver, Words.with_word}
 use Rattle.hb_draft.specs.Kept.{IsDraft, IsKept, heights_of, heights_after}
-use Rattle.hb_draft.specs.Put.{IsOver}
 use Rattle.hb_draft.specs.Unfinished.{Unfinished, KeepsRoots, PutsText, in_hand, trees_of}
-use Rattle.hb_draft.specs.Words.{with_word}
 use Rattle.hb_draft.proofs.WordLists.{with_word-begins, with_word-each, with_word-length}
 use Rattle.hb_draft.proofs.Append.{appended, AreTexts, IsNext, kept-next, hand-next, roots-next}
-use Rattle.hb_draft.proofs.Puts.{hand_after}
-use Rattle.hb_draft.proofs.Hands.{last_none}
-use Rattle.hb_draft.proofs.Steps.{placed_at}
 
 -- the table with a text's node more
 abbrev pub with_text : Table → List (List ℕ) → Placed → Table

@@ -3,11 +3,9 @@ use Rattle.std.proofs.Common.{◌≡◌, ℕ, suc, arith, ◌+◌, ◌≤◌, if
 use Rattle.std.specs.Prelude.{slice_get, bytes_eq, nat_lt}
 use Rattle.std.specs.List.{list_any, prefix_len, position_or_len, IsDistinct, AllByRecursion}
 use Rattle.std.specs.Cmp.Lexicographic.{same_text}
-use Rattle.std.proofs.lemmas.Cmp.{nat_list_eq_equiv}
-use Rattle.std.proofs.lemmas.Map.Keys.{IsDistinct-push}
+use Rattle.std.proofs.{lemmas.Cmp.nat_list_eq_equiv, lemmas.Map.Keys.IsDistinct-push, lemmas.Option.none-some}
 use Rattle.hb_tree.specs.Grows.{BeginsWith}
 use Rattle.indexmap.specs.IndexSet.{insert_key}
-use Rattle.std.proofs.lemmas.Option.{none-some}
 use Rattle.hb_draft.specs.Words.{with_word}
 use Rattle.hb_draft.proofs.Lists.{each-append, slice_get-last}
 use Rattle.std.proofs.lemmas.List.{length-map, append-nil, map-append, take_all, take_at}

@@ -1,10 +1,8 @@
 -- What a program under construction says, and what each step adds to it.
 use Rattle.std.specs.Prelude.{ℕ, Bool, true, false, List, [], ◌∷◌, ◌++◌, map, length, Option, Some, None, bytes_eq}
 use Rattle.std.specs.List.{position_or_len}
-use Rattle.hb_types.specs.declared.ids.NodeId.{NodeId}
-use Rattle.hb_types.specs.declared.types.MethodTy.{MethodTy}
-use Rattle.hb_tree.specs.declared.node.Placed.{Placed}
-use Rattle.hb_tree.specs.declared.parts.Body.{Body}
+use Rattle.hb_types.specs.declared.{ids.NodeId.NodeId, types.MethodTy.MethodTy}
+use Rattle.hb_tree.specs.declared.{node.Placed.Placed, parts.Body.Body}
 use Rattle.hb_tree.specs.Tree.{Tree, TTrue, TFalse, TText, TDef, TDefComputed, TDeclare, TDeclareComputed, id_of}
 use Rattle.hb_tree.specs.Nodes.{params_of}
 use Rattle.hb_draft.specs.Unfinished.{Unfinished, setup_in, scripts_in, in_hand, leaf_over, unary_over}

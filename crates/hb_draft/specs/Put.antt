@@ -2,13 +2,9 @@
 use Rattle.std.specs.Prelude.{◌≡◌, ℕ, ◌-◌, ◌<◌, ◌≤◌, List, ◌∷◌, [], ◌++◌, drop, length}
 use Rattle.std.specs.List.{AllByRecursion}
 use Rattle.hb_types.specs.declared.ids.NodeId.{NodeId}
-use Rattle.hb_tree.specs.declared.node.Node.{Node}
-use Rattle.hb_tree.specs.declared.node.Placed.{Placed}
-use Rattle.hb_tree.specs.declared.limits.TheConstants.{NODES_MAX}
-use Rattle.hb_tree.specs.Table.{Table}
+use Rattle.hb_tree.specs.{Table.Table, TreeAt.tree_at, TreeAt.tree_of, Program.HasPlaces, Program.IsKnownIn}
+use Rattle.hb_tree.specs.declared.{node.Node.Node, node.Placed.Placed, limits.TheConstants.NODES_MAX}
 use Rattle.hb_tree.specs.Nodes.{numbers_of, exprs_of, blocks_of, parts_of}
-use Rattle.hb_tree.specs.TreeAt.{tree_at, tree_of}
-use Rattle.hb_tree.specs.Program.{HasPlaces, IsKnownIn}
 use Rattle.hb_draft.specs.Unfinished.{Unfinished, IsExprPart, IsBlockPart, KeepsRoots, in_hand}
 
 -- the last `count` of these nodes

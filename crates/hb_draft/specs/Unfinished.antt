@@ -1,19 +1,12 @@
 -- What a caller sees of a program under construction, and what each step does to it.
 use Rattle.std.specs.Prelude.{◌≡◌, ℕ, ◌<◌, ◌≤◌, Bool, List, [], ◌∷◌, ◌++◌, map, reverse, length, take, drop, Option, Some, nat_eq, slice_get}
-use Rattle.std.specs.Option.{option_map}
-use Rattle.std.specs.List.{AllByRecursion, IsDistinct}
-use Rattle.hb_types.specs.declared.ids.NodeId.{NodeId}
-use Rattle.hb_types.specs.declared.types.MethodTy.{MethodTy}
-use Rattle.hb_tree.specs.declared.node.Op.{Op}
-use Rattle.hb_tree.specs.declared.node.Node.{Node}
-use Rattle.hb_tree.specs.declared.parts.Body.{Body}
-use Rattle.hb_tree.specs.declared.limits.TheConstants.{HEIGHT_MAX, NODES_IN_BODY_MAX, CALLS_IN_BODY_MAX, VARIABLES_MAX}
-use Rattle.hb_types.specs.declared.types.TheConstants.{PARAMS_MAX}
-use Rattle.hb_tree.specs.Table.{Table}
+use Rattle.std.specs.{Option.option_map, List.AllByRecursion, List.IsDistinct}
+use Rattle.hb_types.specs.declared.{ids.NodeId.NodeId, types.MethodTy.MethodTy, types.TheConstants.PARAMS_MAX}
+use Rattle.hb_tree.specs.{Table.Table, Nodes.params_of, TreeAt.tree_at}
+use Rattle.hb_tree.specs.declared.{node.Op.Op, node.Node.Node, parts.Body.Body, limits.TheConstants.HEIGHT_MAX, limits.TheConstants.NODES_IN_BODY_MAX}
+use Rattle.hb_tree.specs.declared.{limits.TheConstants.CALLS_IN_BODY_MAX, limits.TheConstants.VARIABLES_MAX}
 use Rattle.hb_tree.specs.Tree.{Tree, TText, TBinary, TIf, TWhile, TCall, TDef, TDefComputed, TDeclare, TDeclareComputed, TBlock, Forest, NoTree, Trees, IsExpr, IsBlock, id_of}
 use Rattle.hb_tree.specs.Counts.{height, nodes_in, calls_in, variables_in}
-use Rattle.hb_tree.specs.Nodes.{params_of}
-use Rattle.hb_tree.specs.TreeAt.{tree_at}
 use Rattle.hb_draft.specs.Words.{with_word}
 
 -- the lists so far, and the nodes that are parts of none yet, in the order in which they came

@@ -1,6 +1,5 @@
 use Rattle.std.proofs.Common.{refl, arith, rules}
-use Rattle.std.proofs.lemmas.Grind.{common_steps}
-use Rattle.std.proofs.lemmas.List.Recursion.{max_bounds, max_least}
+use Rattle.std.proofs.{lemmas.Grind.common_steps, lemmas.List.Recursion.max_bounds, lemmas.List.Recursion.max_least}
 use Rattle.hb_draft.specs.Kept.{greatest}
 use Rattle.hb_draft.proofs.pieces.greatest.Goals as goal
 

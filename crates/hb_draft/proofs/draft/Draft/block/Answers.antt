@@ -1,8 +1,7 @@
 use Rattle.std.proofs.Common.{◌≡◌, length, arith}
+use Rattle.hb_draft.proofs.{MadeLemmas.node-made, Heights.low-kept, Heights.length-kept}
 use Rattle.hb_draft.proofs.Blocks.{block_enough, block_kept, block_made}
 use Rattle.hb_draft.specs.Unfinished.{block_over}
-use Rattle.hb_draft.proofs.MadeLemmas.{node-made}
-use Rattle.hb_draft.proofs.Heights.{low-kept, length-kept}
 use Rattle.hb_draft.proofs.draft.Draft.block.Goals as goal
 
 pub last_of-requires : goal.last_of-requires

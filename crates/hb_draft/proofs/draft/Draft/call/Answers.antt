@@ -1,7 +1,6 @@
 use Rattle.std.proofs.Common.{◌+◌, ◌∙◌, ap, arith}
 use Rattle.std.proofs.lemmas.Result.{on_ok_weaker}
-use Rattle.hb_draft.specs.Put.{last_nodes}
-use Rattle.hb_draft.specs.Unfinished.{Unfinished, call_over}
+use Rattle.hb_draft.specs.{Put.last_nodes, Unfinished.Unfinished, Unfinished.call_over}
 use Rattle.hb_draft.proofs.Steps.{enough_nodes, call_can, call_puts}
 use Rattle.hb_draft.proofs.MadeLemmas.{node-made}
 use Rattle.hb_draft.proofs.draft.Draft.call.Goals as goal

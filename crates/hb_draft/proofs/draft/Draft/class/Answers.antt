@@ -1,10 +1,7 @@
 use Rattle.std.proofs.Common.{◌∙◌, ap}
-use Rattle.std.specs.Prelude.{bytes_eq}
-use Rattle.std.specs.List.{position_or_len}
+use Rattle.std.specs.{Prelude.bytes_eq, List.position_or_len}
+use Rattle.hb_draft.proofs.{WordLists.number-new, MadeLemmas.class-made, Named.class_kept, Named.class_made}
 use Rattle.hb_draft.specs.Unfinished.{Unfinished}
-use Rattle.hb_draft.proofs.WordLists.{number-new}
-use Rattle.hb_draft.proofs.MadeLemmas.{class-made}
-use Rattle.hb_draft.proofs.Named.{class_kept, class_made}
 use Rattle.hb_draft.proofs.draft.Draft.class.Goals as goal
 
 pub invariant_of-self-2 : goal.invariant_of-self-2

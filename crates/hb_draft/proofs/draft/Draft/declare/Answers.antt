@@ -1,7 +1,6 @@
 use Rattle.std.proofs.Common.{◌≡◌, length, arith}
+use Rattle.hb_draft.proofs.{MadeLemmas.declare-made, Heights.low-kept, Heights.length-kept}
 use Rattle.hb_draft.proofs.Sites.{CanDeclare, declare_kept, declare_made}
-use Rattle.hb_draft.proofs.MadeLemmas.{declare-made}
-use Rattle.hb_draft.proofs.Heights.{low-kept, length-kept}
 use Rattle.hb_draft.proofs.draft.Draft.declare.Goals as goal
 
 pub invariant_of-self-in-Ok : goal.invariant_of-self-in-Ok

@@ -1,8 +1,6 @@
 use Rattle.std.proofs.Common.{◌≡◌, length, arith}
-use Rattle.hb_draft.proofs.Steps.{enough_nodes}
+use Rattle.hb_draft.proofs.{Steps.enough_nodes, MadeLemmas.declare_computed-made, Heights.low-kept, Heights.length-kept}
 use Rattle.hb_draft.proofs.Computed.{CanDeclareComputed, computed_declare_kept, computed_declare_made}
-use Rattle.hb_draft.proofs.MadeLemmas.{declare_computed-made}
-use Rattle.hb_draft.proofs.Heights.{low-kept, length-kept}
 use Rattle.hb_draft.proofs.draft.Draft.declare_computed.Goals as goal
 
 pub on_top-name-requires : goal.on_top-name-requires

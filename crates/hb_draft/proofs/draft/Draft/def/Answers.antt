@@ -1,8 +1,7 @@
 use Rattle.std.proofs.Common.{◌≡◌, ◌∙◌, ap, length, map, arith}
+use Rattle.hb_draft.proofs.{MadeLemmas.def-made, Heights.low-kept, Heights.length-kept}
 use Rattle.hb_draft.specs.Unfinished.{Unfinished, IsBodyBlock}
 use Rattle.hb_draft.proofs.Sites.{CanDef, one_node, def_kept, def_made}
-use Rattle.hb_draft.proofs.MadeLemmas.{def-made}
-use Rattle.hb_draft.proofs.Heights.{low-kept, length-kept}
 use Rattle.hb_draft.proofs.draft.Draft.def.Goals as goal
 
 pub on_top-block-requires : goal.on_top-block-requires

@@ -1,8 +1,7 @@
 use Rattle.std.proofs.Common.{◌≡◌, ◌∙◌, ap, length, map, arith}
+use Rattle.hb_draft.proofs.{MadeLemmas.def_computed-made, Heights.low-kept, Heights.length-kept}
 use Rattle.hb_draft.specs.Unfinished.{Unfinished, IsBodyBlock}
 use Rattle.hb_draft.proofs.Computed.{CanDefComputed, name_and_block, computed_def_kept, computed_def_made}
-use Rattle.hb_draft.proofs.MadeLemmas.{def_computed-made}
-use Rattle.hb_draft.proofs.Heights.{low-kept, length-kept}
 use Rattle.hb_draft.proofs.draft.Draft.def_computed.Goals as goal
 
 pub on_top-name-requires : goal.on_top-name-requires

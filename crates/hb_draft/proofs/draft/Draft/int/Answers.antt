@@ -1,6 +1,4 @@
-use Rattle.std.proofs.Common.{arith}
-use Rattle.std.proofs.lemmas.Grind.{common_steps}
-use Rattle.std.proofs.lemmas.Result.{on_ok_weaker}
+use Rattle.std.proofs.{Common.arith, lemmas.Grind.common_steps, lemmas.Result.on_ok_weaker}
 use Rattle.hb_draft.specs.Unfinished.{leaf_over}
 use Rattle.hb_tree.specs.Tree.{TInt}
 use Rattle.hb_draft.proofs.MadeLemmas.{node-made}

@@ -1,8 +1,6 @@
 use Rattle.std.proofs.Common.{◌∙◌, ap}
-use Rattle.hb_draft.specs.Unfinished.{Unfinished}
-use Rattle.hb_draft.specs.Made.{word_number}
-use Rattle.hb_draft.proofs.MadeLemmas.{name-made}
-use Rattle.hb_draft.proofs.Named.{name_kept, name_made}
+use Rattle.hb_draft.proofs.{MadeLemmas.name-made, Named.name_kept, Named.name_made}
+use Rattle.hb_draft.specs.{Unfinished.Unfinished, Made.word_number}
 use Rattle.hb_draft.proofs.draft.Draft.name.Goals as goal
 
 pub invariant_of-self-2 : goal.invariant_of-self-2

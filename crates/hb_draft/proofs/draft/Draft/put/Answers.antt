@@ -1,5 +1,4 @@
-use Rattle.hb_draft.proofs.Puts.{put_kept, put_puts}
-use Rattle.hb_draft.proofs.Heights.{low-kept, length-kept}
+use Rattle.hb_draft.proofs.{Puts.put_kept, Puts.put_puts, Heights.low-kept, Heights.length-kept}
 use Rattle.hb_draft.proofs.draft.Draft.put.Goals as goal
 
 pub invariant_of-self-2 : goal.invariant_of-self-2

@@ -1,8 +1,6 @@
 use Rattle.std.proofs.Common.{◌≡◌, length, arith}
+use Rattle.hb_draft.proofs.{Sites.one_node, Named.script_kept, Named.script_made, MadeLemmas.script-made}
 use Rattle.hb_draft.specs.Unfinished.{IsRootBlock}
-use Rattle.hb_draft.proofs.Sites.{one_node}
-use Rattle.hb_draft.proofs.Named.{script_kept, script_made}
-use Rattle.hb_draft.proofs.MadeLemmas.{script-made}
 use Rattle.hb_draft.proofs.draft.Draft.script.Goals as goal
 
 pub on_top-block-requires : goal.on_top-block-requires

@@ -1,8 +1,6 @@
 use Rattle.std.proofs.Common.{◌≡◌, length, arith}
+use Rattle.hb_draft.proofs.{Sites.one_node, Named.setup_kept, Named.setup_made, MadeLemmas.setup-made}
 use Rattle.hb_draft.specs.Unfinished.{IsRootBlock}
-use Rattle.hb_draft.proofs.Sites.{one_node}
-use Rattle.hb_draft.proofs.Named.{setup_kept, setup_made}
-use Rattle.hb_draft.proofs.MadeLemmas.{setup-made}
 use Rattle.hb_draft.proofs.draft.Draft.setup.Goals as goal
 
 pub on_top-block-requires : goal.on_top-block-requires

@@ -1,12 +1,8 @@
 use Rattle.std.proofs.Common.{◌≡◌, ◌∙◌, ap}
 use Rattle.std.specs.Prelude.{slice_get, Some}
+use Rattle.hb_draft.specs.{Words.with_word, Unfinished.Unfinished, Made.word_number}
+use Rattle.hb_draft.proofs.{WordLists.with_word-front, MadeLemmas.text-made, Heights.low-kept, Heights.length-kept}
 use Rattle.hb_draft.proofs.Texts.{text_kept, text_made, text_hand}
-use Rattle.hb_draft.proofs.WordLists.{with_word-front}
-use Rattle.hb_draft.specs.Words.{with_word}
-use Rattle.hb_draft.specs.Unfinished.{Unfinished}
-use Rattle.hb_draft.specs.Made.{word_number}
-use Rattle.hb_draft.proofs.MadeLemmas.{text-made}
-use Rattle.hb_draft.proofs.Heights.{low-kept, length-kept}
 use Rattle.hb_draft.proofs.draft.Draft.text.Goals as goal
 
 pub invariant_of-self-in-Ok : goal.invariant_of-self-in-Ok

@@ -1,5 +1,4 @@
-use Rattle.std.proofs.Common.{arith}
-use Rattle.std.proofs.lemmas.Result.{on_ok_weaker}
+use Rattle.std.proofs.{Common.arith, lemmas.Result.on_ok_weaker}
 use Rattle.hb_draft.proofs.Steps.{two_nodes, while_can, while_puts}
 use Rattle.hb_draft.specs.Unfinished.{while_over}
 use Rattle.hb_draft.proofs.MadeLemmas.{node-made}
