@@ -3,27 +3,19 @@ use Rattle.std.proofs.Common.{◌≡◌, ℕ, suc, zero, ◌+◌, ◌-◌, ◌<�
 use Rattle.std.proofs.Common.{take, append_assoc, length-append, length-drop}
 use Rattle.std.proofs.lemmas.Bool.{cases_Bool, cond-true, cond-false, le-leb, lt-leb}
 use Rattle.std.proofs.lemmas.List.{length-map, length-take-le}
-use Rattle.std.specs.List.{AllByRecursion}
-use Rattle.std.specs.Prelude.{nat_le, if◌then◌else◌}
-use Rattle.hb_lex.specs.declared.spans.Token.{Token}
-use Rattle.hb_lex.specs.declared.kinds.TokenKind.{TokenKind}
+use Rattle.std.specs.{List.AllByRecursion, Prelude.nat_le, Prelude.if◌then◌else◌}
+use Rattle.hb_lex.specs.declared.{spans.Token.Token, kinds.TokenKind.TokenKind}
 use Rattle.hb_tree.proofs.Lists.{each_weaker}
-use Rattle.hb_grammar.specs.declared.actions.Action.{Action}
-use Rattle.hb_grammar.specs.declared.symbols.Sort.{Sort}
-use Rattle.hb_grammar.specs.declared.symbols.Symbol.{Symbol}
-use Rattle.hb_grammar.specs.declared.symbols.Symbol.TheVariants.{Token as T, Phrase as N, Action as A}
-use Rattle.hb_grammar.specs.declared.wanted.Wanted.{Wanted}
+use Rattle.hb_grammar.proofs.{TableLemmas.sorts, OneLemmas.one-place, OneLemmas.one-wanted}
+use Rattle.hb_grammar.specs.{Grammar.alternatives, Course.Course, Course.left, Measure.potential}
+use Rattle.hb_grammar.specs.declared.{actions.Action.Action, symbols.Sort.Sort, symbols.Symbol.Symbol, symbols.Symbol.TheVariants.Token as T}
+use Rattle.hb_grammar.specs.declared.{symbols.Symbol.TheVariants.Phrase as N, symbols.Symbol.TheVariants.Action as A, wanted.Wanted.Wanted}
 use Rattle.hb_grammar.specs.declared.wanted.Wanted.TheVariants as want
-use Rattle.hb_grammar.specs.Grammar.{alternatives}
 use Rattle.hb_grammar.specs.Language.{Act, act, kinds_of, program, Derives, Translates, HasActions, HasFirstActions, sign, with_sign}
 use Rattle.hb_grammar.specs.Sight.{kind_eq, is_kind, front, choice, run, acts, Does, Outcome, Unfinished, Done, Missed, wanted_for}
-use Rattle.hb_grammar.specs.Course.{Course, left}
-use Rattle.hb_grammar.specs.Measure.{potential}
-use Rattle.hb_grammar.proofs.TableLemmas.{sorts}
 use Rattle.hb_grammar.proofs.SightLemmas.{same_kind, choice-derives, IsFollowed, IsFollowed-phrase, holds_of, is_sort}
 use Rattle.hb_grammar.proofs.ExactLemmas.{is_choice, missed_not_done, phrase_of, phrase_done}
 use Rattle.hb_grammar.proofs.WantedLemmas.{IsSigned, sign_is, signs_ok, all_signs, signed_choice, signed_sort, signed_action, signed_tail, signed_first, same_want}
-use Rattle.hb_grammar.proofs.OneLemmas.{one-place, one-wanted}
 use Rattle.hb_grammar.proofs.TopLemmas.{misses-run, cut_at, ends_program}
 use Rattle.hb_grammar.proofs.PotentialLemmas.{potential-action, potential-phrase, potential-token}
 use Rattle.hb_grammar.proofs.CourseLemmas.{Does-token, Does-phrase, Does-action, Does-missed, Does-left, Does-done}
@@ -267,7 +259,7 @@ ends c = ends-within (suc (potential c.ahead (left c))) c.ahead c.read (left c) 
 
 -- ── tokens have one list of actions ──
 
-derives-translates : (n : ℕ) (stack : List Symbol) (at : ℕ) (tokens : List TokenKind) (done : List Act) → Translates n stack at tokens done → Derives n stack tokens
+pub derives-translates : (n : ℕ) (stack : List Symbol) (at : ℕ) (tokens : List TokenKind) (done : List Act) → Translates n stack at tokens done → Derives n stack tokens
 derives-translates zero stack at tokens done d = d
 derives-translates (suc n) [] at tokens done d = d.0
 derives-translates (suc n) (T j ∷ stack) at tokens done d = (d.0, d.1, derives-translates n stack (at + 1) d.0 done d.2)

@@ -2,19 +2,14 @@
 use Rattle.std.proofs.Common.{◌≡◌, ℕ, suc, zero, ◌+◌, ◌<◌, ◌≤◌, slice_index_or, List, [], ◌∷◌, ◌++◌, true, false, Some, refl, sym, ◌∙◌, ap, subst, length, arith, drop, reverse, length-drop}
 use Rattle.std.proofs.lemmas.Bool.{cond-true, cond-false, both_ways}
 use Rattle.std.proofs.lemmas.List.{append-nil, drop-drop, length-map, reverse-append}
-use Rattle.hb_lex.specs.declared.spans.Token.{Token}
-use Rattle.hb_lex.specs.declared.kinds.TokenKind.{TokenKind}
-use Rattle.hb_grammar.specs.declared.actions.Action.{Action}
-use Rattle.hb_grammar.specs.declared.symbols.Sort.{Sort}
-use Rattle.hb_grammar.specs.declared.symbols.Symbol.{Symbol}
-use Rattle.hb_grammar.specs.declared.symbols.Symbol.TheVariants.{Token as T, Phrase as N, Action as A}
-use Rattle.hb_grammar.specs.declared.wanted.Wanted.{Wanted}
+use Rattle.hb_lex.specs.declared.{spans.Token.Token, kinds.TokenKind.TokenKind}
+use Rattle.hb_grammar.specs.{Grammar.alternatives, Measure.potential, Measure.size}
+use Rattle.hb_grammar.specs.declared.{actions.Action.Action, symbols.Sort.Sort, symbols.Symbol.Symbol, symbols.Symbol.TheVariants.Token as T}
+use Rattle.hb_grammar.specs.declared.{symbols.Symbol.TheVariants.Phrase as N, symbols.Symbol.TheVariants.Action as A, wanted.Wanted.Wanted}
 use Rattle.hb_grammar.specs.declared.wanted.Wanted.TheVariants as want
-use Rattle.hb_grammar.specs.Grammar.{alternatives}
 use Rattle.hb_grammar.specs.Language.{Act, act, kinds_of}
 use Rattle.hb_grammar.specs.Sight.{is_kind, kind_eq, front, choice, run, acts, Does, Outcome, Done, Missed, wanted_for}
 use Rattle.hb_grammar.specs.Course.{Course, left, Turns, Leads, Reaches, ComesTo, StopsAt}
-use Rattle.hb_grammar.specs.Measure.{potential, size}
 use Rattle.hb_grammar.proofs.SightLemmas.{same_kind, kind_same}
 use Rattle.hb_grammar.proofs.PotentialLemmas.{potential-action, potential-phrase, potential-token}
 

@@ -1,12 +1,10 @@
 -- Tokens stop to begin a program at one place, where one thing is wanted.
 use Rattle.std.proofs.Common.{◌≡◌, ℕ, ◌≤◌, ◌<◌, ◌+◌, ◌-◌, List, ◌++◌, refl, sym, ◌∙◌, ap, subst, inl, inr, length, take, drop, get_or, arith, append_assoc}
 use Rattle.std.proofs.lemmas.Bool.{cases_Bool, ltb-true, ltb-false}
-use Rattle.std.proofs.lemmas.List.{take-append-drop}
-use Rattle.std.proofs.Math.Seq.{take-add}
+use Rattle.std.proofs.{lemmas.List.take-append-drop, Math.Seq.take-add}
 use Rattle.std.specs.Prelude.{nat_lt}
 use Rattle.hb_lex.specs.declared.kinds.TokenKind.{TokenKind}
-use Rattle.hb_grammar.specs.declared.symbols.Symbol.{Symbol}
-use Rattle.hb_grammar.specs.declared.wanted.Wanted.{Wanted}
+use Rattle.hb_grammar.specs.declared.{symbols.Symbol.Symbol, wanted.Wanted.Wanted}
 use Rattle.hb_grammar.specs.declared.wanted.Wanted.TheVariants as want
 use Rattle.hb_grammar.specs.Language.{Begins, IsSentence, IsProgramText, Misses, program, rank}
 use Rattle.hb_grammar.proofs.WantedLemmas.{wants}

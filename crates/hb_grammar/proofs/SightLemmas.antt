@@ -1,17 +1,14 @@
 -- What one token of sight tells of a derivation.
 use Rattle.std.proofs.Common.{◌≡◌, ℕ, suc, zero, List, [], ◌∷◌, ◌++◌, Bool, true, false, not, ◌&&◌, ◌||◌, Option, refl, sym, ◌∙◌, ap, subst, inl, inr, get_or}
 use Rattle.std.proofs.lemmas.Bool.{and_parts, and_from, not-true, eqb-true, eq-eqb, or_cases, or_left, or_right, cases_Bool, both_ways, cond-true, cond-false}
-use Rattle.std.specs.List.{list_all}
-use Rattle.std.specs.Prelude.{is_none}
+use Rattle.std.specs.{List.list_all, Prelude.is_none}
 use Rattle.hb_lex.specs.declared.kinds.TokenKind.{TokenKind}
 use Rattle.hb_lex.specs.declared.kinds.TokenKind.TheVariants as k
-use Rattle.hb_grammar.specs.declared.symbols.Sort.{Sort}
+use Rattle.hb_grammar.specs.{Grammar.alternatives, Language.IsOneOf, Language.Derives}
+use Rattle.hb_grammar.specs.declared.{symbols.Sort.Sort, symbols.Symbol.Symbol, symbols.Symbol.TheVariants.Token as T, symbols.Symbol.TheVariants.Phrase as N}
+use Rattle.hb_grammar.specs.declared.{symbols.Symbol.TheVariants.Action as A}
 use Rattle.hb_grammar.specs.declared.symbols.Sort.TheVariants as g
-use Rattle.hb_grammar.specs.declared.symbols.Symbol.{Symbol}
-use Rattle.hb_grammar.specs.declared.symbols.Symbol.TheVariants.{Token as T, Phrase as N, Action as A}
-use Rattle.hb_grammar.specs.Grammar.{alternatives}
 use Rattle.hb_grammar.specs.Sight.{among, starts, may_begin, may_be_empty, kind_eq, code, front, choice}
-use Rattle.hb_grammar.specs.Language.{IsOneOf, Derives}
 use Rattle.hb_grammar.proofs.TableLemmas.{may_follow, implies, is_start, is_clear, none_begins, is_followed, is_right, sorts, all_right}
 
 -- ── tests ──

@@ -3,10 +3,9 @@ use Rattle.std.proofs.Common.{◌≡◌, List, [], ◌∷◌, Bool, true, false,
 use Rattle.std.specs.List.{list_all}
 use Rattle.hb_lex.specs.declared.kinds.TokenKind.{TokenKind}
 use Rattle.hb_lex.specs.declared.kinds.TokenKind.TheVariants as k
-use Rattle.hb_grammar.specs.declared.symbols.Sort.{Sort}
+use Rattle.hb_grammar.specs.declared.{symbols.Sort.Sort, symbols.Symbol.Symbol, symbols.Symbol.TheVariants.Token as T, symbols.Symbol.TheVariants.Phrase as N}
+use Rattle.hb_grammar.specs.declared.{symbols.Symbol.TheVariants.Action as A}
 use Rattle.hb_grammar.specs.declared.symbols.Sort.TheVariants as g
-use Rattle.hb_grammar.specs.declared.symbols.Symbol.{Symbol}
-use Rattle.hb_grammar.specs.declared.symbols.Symbol.TheVariants.{Token as T, Phrase as N, Action as A}
 use Rattle.hb_grammar.specs.Grammar.{alternatives}
 use Rattle.hb_grammar.specs.Sight.{among, starts, may_begin, may_be_empty}
 

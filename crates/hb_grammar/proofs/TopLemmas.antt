@@ -3,14 +3,12 @@ use Rattle.std.proofs.Common.{◌≡◌, ℕ, ◌+◌, ◌<◌, ◌≤◌, List,
 use Rattle.std.proofs.lemmas.Bool.{both_ways}
 use Rattle.std.specs.Prelude.{is_none}
 use Rattle.hb_lex.specs.declared.kinds.TokenKind.{TokenKind}
+use Rattle.hb_grammar.proofs.{TableLemmas.may_follow, SightLemmas.IsFollowed}
 use Rattle.hb_grammar.specs.declared.symbols.Sort.TheVariants as g
-use Rattle.hb_grammar.specs.declared.symbols.Symbol.{Symbol}
-use Rattle.hb_grammar.specs.declared.wanted.Wanted.{Wanted}
+use Rattle.hb_grammar.specs.declared.{symbols.Symbol.Symbol, wanted.Wanted.Wanted}
 use Rattle.hb_grammar.specs.declared.wanted.Wanted.TheVariants as want
 use Rattle.hb_grammar.specs.Sight.{Runs, run, may_begin, Outcome, Done, Missed}
 use Rattle.hb_grammar.specs.Language.{Begins, IsSentence, IsFirstMissed, IsFirstWanted, Misses, IsProgramText, Derives, program}
-use Rattle.hb_grammar.proofs.TableLemmas.{may_follow}
-use Rattle.hb_grammar.proofs.SightLemmas.{IsFollowed}
 use Rattle.hb_grammar.proofs.WantedLemmas.{IsCapped, Follows, follows-run, lowest}
 use Rattle.hb_grammar.proofs.ExactLemmas.{excludes, begins-run, derives-run, BeginsBefore, EndsAt, with_first}
 

@@ -1,13 +1,9 @@
 -- The way of a text through the grammar, from one action to the next.
 use Rattle.std.specs.Prelude.{◌≡◌, ℕ, zero, suc, ◌+◌, ◌≤◌, List, [], ◌∷◌, ◌++◌, drop, length}
-use Rattle.hb_lex.specs.declared.kinds.TokenKind.{TokenKind}
-use Rattle.hb_lex.specs.declared.spans.Token.{Token}
-use Rattle.hb_grammar.specs.declared.actions.Action.{Action}
-use Rattle.hb_grammar.specs.declared.symbols.Symbol.{Symbol}
-use Rattle.hb_grammar.specs.declared.symbols.Symbol.TheVariants.{Token as T, Phrase as N, Action as A}
-use Rattle.hb_grammar.specs.declared.wanted.Wanted.{Wanted}
-use Rattle.hb_grammar.specs.Grammar.{alternatives}
-use Rattle.hb_grammar.specs.Language.{kinds_of, program}
+use Rattle.hb_lex.specs.declared.{kinds.TokenKind.TokenKind, spans.Token.Token}
+use Rattle.hb_grammar.specs.{Grammar.alternatives, Language.kinds_of, Language.program}
+use Rattle.hb_grammar.specs.declared.{actions.Action.Action, symbols.Symbol.Symbol, symbols.Symbol.TheVariants.Token as T, symbols.Symbol.TheVariants.Phrase as N}
+use Rattle.hb_grammar.specs.declared.{symbols.Symbol.TheVariants.Action as A, wanted.Wanted.Wanted}
 use Rattle.hb_grammar.specs.Sight.{choice, front, Does, Missed}
 
 -- the symbols that are ahead, the next one first, and how many of the tokens were read

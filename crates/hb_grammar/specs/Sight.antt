@@ -2,14 +2,11 @@
 use Rattle.std.specs.Prelude.{◌≡◌, ℕ, zero, suc, ◌+◌, List, [], ◌∷◌, ◌++◌, Bool, true, false, ◌&&◌, ◌||◌, length, nat_eq, Option, Some, None, if◌then◌else◌}
 use Rattle.hb_lex.specs.declared.kinds.TokenKind.{TokenKind}
 use Rattle.hb_lex.specs.declared.kinds.TokenKind.TheVariants as k
-use Rattle.hb_grammar.specs.declared.symbols.Sort.{Sort}
+use Rattle.hb_grammar.specs.{Grammar.alternatives, Language.Act, Language.act}
+use Rattle.hb_grammar.specs.declared.{symbols.Sort.Sort, symbols.Symbol.Symbol, symbols.Symbol.TheVariants.Token as T, symbols.Symbol.TheVariants.Phrase as N}
+use Rattle.hb_grammar.specs.declared.{symbols.Symbol.TheVariants.Action as A, wanted.Wanted.Wanted}
 use Rattle.hb_grammar.specs.declared.symbols.Sort.TheVariants as g
-use Rattle.hb_grammar.specs.declared.symbols.Symbol.{Symbol}
-use Rattle.hb_grammar.specs.declared.symbols.Symbol.TheVariants.{Token as T, Phrase as N, Action as A}
-use Rattle.hb_grammar.specs.declared.wanted.Wanted.{Wanted}
 use Rattle.hb_grammar.specs.declared.wanted.Wanted.TheVariants as want
-use Rattle.hb_grammar.specs.Grammar.{alternatives}
-use Rattle.hb_grammar.specs.Language.{Act, act}
 
 -- kinds by numbers, so that they can be compared by computing
 abbrev pub code : TokenKind → ℕ

@@ -1,10 +1,9 @@
 -- What a step of a course is.
 use Rattle.std.specs.Prelude.{[], ◌<◌}
+use Rattle.hb_grammar.specs.{Measure.size, Sight.Does, Sight.Done}
 use Rattle.hb_grammar.specs.declared.course.Step.{Step}
 use Rattle.hb_grammar.specs.declared.course.Step.TheVariants as step
 use Rattle.hb_grammar.specs.Course.{Course, ComesTo, StopsAt, left}
-use Rattle.hb_grammar.specs.Measure.{size}
-use Rattle.hb_grammar.specs.Sight.{Does, Done}
 
 -- this is the next step from the old place, and the new place is behind it
 abbrev pub Comes : Course → Step → Course → Type 0

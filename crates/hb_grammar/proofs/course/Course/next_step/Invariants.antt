@@ -1,7 +1,5 @@
 use Rattle.std.proofs.Common.{◌≡◌, ◌≤◌, drop, length, reverse}
-use Rattle.hb_grammar.specs.Language.{kinds_of}
-use Rattle.hb_grammar.specs.Course.{Leads, left}
-use Rattle.hb_grammar.specs.Measure.{potential}
+use Rattle.hb_grammar.specs.{Language.kinds_of, Course.Leads, Course.left, Measure.potential}
 use Rattle.hb_grammar.proofs.course.Course.next_step.Given as goal
 
 abbrev pub invariant-loop-symbol : goal.invariant-loop-symbol
