@@ -1,6 +1,8 @@
 //! The program that actions build, with what is not yet used of it.
 
 ghost use Rattle.std.specs.Prelude.{◌≡◌, IfOk};
+ghost use Rattle.hb_tree.specs.Program.{IsProgram};
+ghost use Rattle.hb_tree.specs.Roots.{IsReachedOnce};
 ghost use Rattle.hb_build.specs.Acts.{nothing};
 ghost use Rattle.hb_build.specs.Said.{said_in};
 ghost use Rattle.hb_build.specs.Sound.{IsSound, work_of};
@@ -65,7 +67,9 @@ impl Builder {
 
     /// The program that was built.
     pub fn finish(self) -> Result<Program, AllocError>
-        ensures { IfOk result (λ program. said_in program ≡ (work_of self).said) }
+        ensures said { IfOk result (λ program. said_in program ≡ (work_of self).said) }
+        ensures program { IfOk result IsProgram }
+        ensures once { IfOk result IsReachedOnce }
     {
         self.draft.finish()
     }

@@ -220,6 +220,7 @@ impl<D: Desk, N: Names> Call<'_, '_, '_, '_, D, N> {
         name: NameId,
     ) -> Result<Option<TypeSite>, LookFail>
         requires calling { IsUnderWay D.fixed D.front N.known N.asked self.old }
+        requires name { name.0 < length self.old.prog.now.names }
         ensures calling { IsUnderWay D.fixed D.front N.known N.asked self.new }
         ensures alike { GoesOn D.fixed D.front N.known N.asked self.old self.new }
         ensures names { N.alike self.old.names.now self.new.names.now }
@@ -231,10 +232,6 @@ impl<D: Desk, N: Names> Call<'_, '_, '_, '_, D, N> {
         ensures refused { self.new.refused ≡ self.old.refused }
         ensures full { IsErrOf result LookFail.Full → IsFull (N.known self.new.names.now) (name_of self.old.prog.now (class.0, name.0)) }
     {
-        // No body of a program calls a method by another name than the program's.
-        if name.0 as usize >= self.prog.names() {
-            return Err(LookFail::NoMemory);
-        }
         // There is room for the hold before the name is asked for, so that no name is asked for in vain.
         if self.make_room(alloc).is_err() {
             return Err(LookFail::NoMemory);
@@ -324,9 +321,9 @@ fn takes(ty: &MethodTy, args: &ArgKinds) -> bool
 }
 
 impl<D: Desk, N: Names> Lookup for Call<'_, '_, '_, '_, D, N> {
-    ghost use Rattle.std.proofs.Common.{refl, ◌∙◌};
+    ghost use Rattle.std.proofs.Common.{length, refl, ap, ◌∙◌};
     ghost use Rattle.hb_tree.specs.declared.limits.TheConstants.{TYPES_MAX};
-    ghost use Rattle.hb_call.specs.Calling.{IsRefusedRightly, answers_of, refusal_of};
+    ghost use Rattle.hb_call.specs.Calling.{Given, IsRefusedRightly, answers_of, refusal_of};
     ghost use Rattle.hb_call.specs.Seen.{AsksOn, GoesOn, IsUnderWay, given_of, moment_of};
     ghost use Rattle.hb_call.specs.Alike.{alike_itself, alike_on, asking_itself, asking_on};
 
@@ -336,6 +333,8 @@ impl<D: Desk, N: Names> Lookup for Call<'_, '_, '_, '_, D, N> {
 
     ghost bound = { λ s. TYPES_MAX };
 
+    ghost names = { λ s. length s.prog.now.names };
+
     ghost alike = { λ a b. GoesOn D.fixed D.front N.known N.asked a b × N.alike a.names.now b.names.now × AsksOn D.fixed D.front N.known N.asked a b × (a.compared.now.items ≡ b.compared.now.items) };
 
     ghost alike_itself = { λ a. (alike_itself (given_of D.fixed a) (moment_of D.front N.known N.asked a), N.alike_itself a.names.now, asking_itself (given_of D.fixed a) (moment_of D.front N.known N.asked a) a.answers.now.items, refl) };
@@ -343,6 +342,8 @@ impl<D: Desk, N: Names> Lookup for Call<'_, '_, '_, '_, D, N> {
     ghost alike_on = { λ a b c p q. (alike_on (given_of D.fixed a) (given_of D.fixed b) (given_of D.fixed c) (moment_of D.front N.known N.asked a) (moment_of D.front N.known N.asked b) (moment_of D.front N.known N.asked c) p.0 q.0, N.alike_on a.names.now b.names.now c.names.now p.1 q.1, asking_on (given_of D.fixed a) (given_of D.fixed b) (moment_of D.front N.known N.asked a) (moment_of D.front N.known N.asked b) (moment_of D.front N.known N.asked c) a.answers.now.items b.answers.now.items c.answers.now.items p.0.same q.0.goes.went p.2 q.2, p.3 ∙ q.3) };
 
     ghost bound_stays = { λ a b e. refl };
+
+    ghost names_stay = { λ a b e. ap (λ (g : Given). length g.t.names) e.0.same };
 
     ghost ready = { λ s. IsUnderWay D.fixed D.front N.known N.asked s × IsRefusedRightly s.prog.now (N.known s.names.now) s.refused };
 

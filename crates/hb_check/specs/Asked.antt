@@ -1,9 +1,10 @@
 -- What a lookup was asked, and which type tables agree with what it answered.
-use Rattle.std.specs.Prelude.{◌≡◌, ℕ, List, [], ◌∷◌, Option, Some, None}
+use Rattle.std.specs.Prelude.{◌≡◌, ℕ, ◌≤◌, List, [], ◌∷◌, length, Option, Some, None}
 use Rattle.std.specs.Option.{option_map}
 use Rattle.hb_types.specs.declared.ids.ClassId.{ClassId}
 use Rattle.hb_types.specs.declared.ids.NameId.{NameId}
 use Rattle.hb_types.specs.declared.ids.TypeSite.{TypeSite}
+use Rattle.hb_tree.specs.Table.{Table}
 use Rattle.hb_deriv.specs.declared.raw.Used.{Used}
 use Rattle.hb_deriv.specs.Judge.{Key, Types}
 use Rattle.hb_deriv.specs.Derivation.{Sites, type_at}
@@ -49,3 +50,8 @@ Agrees (a ∷ answers) declared = (declared (key_asked a) ≡ a.site) × Agrees 
 -- the types of a program that the table has
 abbrev pub types_in : Sites → Declared → Types
 types_in sites declared k = type_at sites (declared k)
+
+-- a lookup that may be asked now, for each name of the table
+pub record MayAsk (ready : Type 0) (names : ℕ) (t : Table) : Type 0 where
+  pub is_ready : ready
+  pub all_names : length t.names ≤ names

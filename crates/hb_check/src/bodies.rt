@@ -47,6 +47,7 @@ pub fn check<L: Lookup>(
     requires unanswered { L.answers look.old ≡ [] }
     requires unrefused { L.refused look.old ≡ None }
     requires ready { L.ready look.old }
+    requires names { length prog.now.names ≤ L.names look.old }
     ensures ready { L.ready look.new }
     ensures alike { L.alike look.old look.new }
     ensures answers { Answers prog.now class.0 body.0 declared.0 (L.answers look.new) (L.refused look.new) result }

@@ -5,6 +5,7 @@ ghost use Rattle.std.specs.List.{AllByRecursion};
 ghost use Rattle.hb_tree.specs.Nodes.{name_parts};
 ghost use Rattle.hb_tree.specs.Tree.{TAssign, TBinary, TIf, TWhile, TCall};
 ghost use Rattle.hb_tree.specs.TreeAt.{forest_at, tree_at, IsBlockAt};
+ghost use Rattle.hb_check.specs.Asked.{MayAsk};
 ghost use Rattle.hb_check.specs.Checked.{Checks, ChecksArgs, ChecksMethod, ChecksPart};
 ghost use Rattle.hb_check.specs.Runs.{state, with_list, with_variables};
 
@@ -40,8 +41,8 @@ pub fn check_node<L: Lookup>(
     look: &mut L,
 ) -> Result<Ty, Stop>
     requires within { id.0 < length scene.prog.now.nodes }
-    requires ready { L.ready look.old }
-    ensures ready { L.ready look.new }
+    requires ready { MayAsk (L.ready look.old) (L.names look.old) scene.prog.now }
+    ensures ready { MayAsk (L.ready look.new) (L.names look.new) scene.entry.prog.now }
     ensures alike { L.alike look.old look.new }
     ensures checks { Checks scene.entry.prog.now scene.entry.class.0 (tree_at scene.entry.prog.now id.0) env.old
         (state (L.answers look.old) (L.refused look.old) notes.old)
@@ -101,8 +102,8 @@ fn check_assign<L: Lookup>(
 ) -> Result<Ty, Stop>
     requires within { id.0 < length scene.prog.now.nodes }
     requires below { value.0 < id.0 }
-    requires ready { L.ready look.old }
-    ensures ready { L.ready look.new }
+    requires ready { MayAsk (L.ready look.old) (L.names look.old) scene.prog.now }
+    ensures ready { MayAsk (L.ready look.new) (L.names look.new) scene.entry.prog.now }
     ensures alike { L.alike look.old look.new }
     ensures checks { Checks scene.entry.prog.now scene.entry.class.0 (TAssign id.0 name.0 (tree_at scene.entry.prog.now value.0)) env.old
         (state (L.answers look.old) (L.refused look.old) notes.old)
@@ -126,8 +127,8 @@ fn check_part<L: Lookup>(
 ) -> Result<Ty, Stop>
     requires within { id.0 < length scene.prog.now.nodes }
     requires below { part.0 < id.0 }
-    requires ready { L.ready look.old }
-    ensures ready { L.ready look.new }
+    requires ready { MayAsk (L.ready look.old) (L.names look.old) scene.prog.now }
+    ensures ready { MayAsk (L.ready look.new) (L.names look.new) scene.entry.prog.now }
     ensures alike { L.alike look.old look.new }
     ensures checks { ChecksPart scene.entry.prog.now scene.entry.class.0 id.0 (tree_at scene.entry.prog.now part.0) ty env.old
         (state (L.answers look.old) (L.refused look.old) notes.old)
@@ -151,8 +152,8 @@ fn check_binary<L: Lookup>(
     requires within { id.0 < length scene.prog.now.nodes }
     requires left { left.0 < id.0 }
     requires right { right.0 < id.0 }
-    requires ready { L.ready look.old }
-    ensures ready { L.ready look.new }
+    requires ready { MayAsk (L.ready look.old) (L.names look.old) scene.prog.now }
+    ensures ready { MayAsk (L.ready look.new) (L.names look.new) scene.entry.prog.now }
     ensures alike { L.alike look.old look.new }
     ensures checks { Checks scene.entry.prog.now scene.entry.class.0
         (TBinary id.0 op (tree_at scene.entry.prog.now left.0) (tree_at scene.entry.prog.now right.0)) env.old
@@ -179,8 +180,8 @@ fn check_if<L: Lookup>(
     requires condition { condition.0 < id.0 }
     requires then { then.0 < id.0 }
     requires other { other.0 < id.0 }
-    requires ready { L.ready look.old }
-    ensures ready { L.ready look.new }
+    requires ready { MayAsk (L.ready look.old) (L.names look.old) scene.prog.now }
+    ensures ready { MayAsk (L.ready look.new) (L.names look.new) scene.entry.prog.now }
     ensures alike { L.alike look.old look.new }
     ensures checks { Checks scene.entry.prog.now scene.entry.class.0
         (TIf id.0 (tree_at scene.entry.prog.now condition.0) (tree_at scene.entry.prog.now then.0) (tree_at scene.entry.prog.now other.0)) env.old
@@ -208,8 +209,8 @@ fn check_while<L: Lookup>(
     requires within { id.0 < length scene.prog.now.nodes }
     requires condition { condition.0 < id.0 }
     requires turn { turn.0 < id.0 }
-    requires ready { L.ready look.old }
-    ensures ready { L.ready look.new }
+    requires ready { MayAsk (L.ready look.old) (L.names look.old) scene.prog.now }
+    ensures ready { MayAsk (L.ready look.new) (L.names look.new) scene.entry.prog.now }
     ensures alike { L.alike look.old look.new }
     ensures checks { Checks scene.entry.prog.now scene.entry.class.0
         (TWhile id.0 (tree_at scene.entry.prog.now condition.0) (tree_at scene.entry.prog.now turn.0)) env.old
@@ -238,10 +239,11 @@ fn check_call<L: Lookup>(
 ) -> Result<Ty, Stop>
     requires within { id.0 < length scene.prog.now.nodes }
     requires receiver { receiver.0 < id.0 }
+    requires name { name.0 < length scene.prog.now.names }
     requires args { All (λ i. i.0 < id.0) args.now }
     requires few { length args.now ≤ ARGUMENTS_MAX }
-    requires ready { L.ready look.old }
-    ensures ready { L.ready look.new }
+    requires ready { MayAsk (L.ready look.old) (L.names look.old) scene.prog.now }
+    ensures ready { MayAsk (L.ready look.new) (L.names look.new) scene.entry.prog.now }
     ensures alike { L.alike look.old look.new }
     ensures checks { Checks scene.entry.prog.now scene.entry.class.0
         (TCall id.0 (tree_at scene.entry.prog.now receiver.0) name.0 (forest_at (tree_at scene.entry.prog.now) args.now)) env.old
@@ -267,8 +269,8 @@ fn check_args<L: Lookup>(
     requires within { id.0 < length scene.prog.now.nodes }
     requires args { All (λ i. i.0 < id.0) args.now }
     requires few { length args.now ≤ ARGUMENTS_MAX }
-    requires ready { L.ready look.old }
-    ensures ready { L.ready look.new }
+    requires ready { MayAsk (L.ready look.old) (L.names look.old) scene.prog.now }
+    ensures ready { MayAsk (L.ready look.new) (L.names look.new) scene.entry.prog.now }
     ensures alike { L.alike look.old look.new }
     ensures checks { ChecksArgs scene.entry.prog.now scene.entry.class.0 (forest_at (tree_at scene.entry.prog.now) args.now) env.old []
         (state (L.answers look.old) (L.refused look.old) notes.old)
@@ -294,8 +296,8 @@ fn check_method<L: Lookup>(
 ) -> Result<Ty, Stop>
     requires within { id.0 < length scene.prog.now.nodes }
     requires below { AllByRecursion (λ j. j < id.0) (name_parts method) }
-    requires ready { L.ready look.old }
-    ensures ready { L.ready look.new }
+    requires ready { MayAsk (L.ready look.old) (L.names look.old) scene.prog.now }
+    ensures ready { MayAsk (L.ready look.new) (L.names look.new) scene.entry.prog.now }
     ensures alike { L.alike look.old look.new }
     ensures checks { ChecksMethod scene.entry.prog.now scene.entry.class.0 id.0 method ty env.old
         (state (L.answers look.old) (L.refused look.old) notes.old)
@@ -320,8 +322,8 @@ fn check_items<L: Lookup>(
     look: &mut L,
 ) -> Result<Ty, Stop>
     requires block { IsBlockAt scene.prog.now block.0 }
-    requires ready { L.ready look.old }
-    ensures ready { L.ready look.new }
+    requires ready { MayAsk (L.ready look.old) (L.names look.old) scene.prog.now }
+    ensures ready { MayAsk (L.ready look.new) (L.names look.new) scene.entry.prog.now }
     ensures alike { L.alike look.old look.new }
     ensures checks { Checks scene.entry.prog.now scene.entry.class.0 (tree_at scene.entry.prog.now block.0) env.old
         (state (L.answers look.old) (L.refused look.old) notes.old)

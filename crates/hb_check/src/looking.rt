@@ -1,11 +1,12 @@
 //! The types of the methods that a body calls.
 
-ghost use Rattle.std.specs.Prelude.{◌≡◌, [], ◌∷◌, None, IfOk};
+ghost use Rattle.std.specs.Prelude.{◌≡◌, ◌<◌, [], ◌∷◌, None, length, IfOk};
 ghost use Rattle.hb_types.specs.Types.{IsMethodTy};
 ghost use Rattle.hb_types.specs.Variables.{Variables};
 ghost use Rattle.hb_deriv.specs.Judge.{keys_of};
 ghost use Rattle.hb_deriv.specs.Events.{Look, look_at};
 ghost use Rattle.hb_deriv.specs.Programs.{sites_of};
+ghost use Rattle.hb_check.specs.Asked.{MayAsk};
 ghost use Rattle.hb_check.specs.Looking.{IsVerdict, method_of, site_among, with_type};
 ghost use Rattle.hb_check.specs.Runs.{Runs, state, with_variables};
 
@@ -28,8 +29,9 @@ pub fn method_of<L: Lookup>(
     notes: &mut Notes,
     look: &mut L,
 ) -> Result<MethodTy, Stop>
-    requires ready { L.ready look.old }
-    ensures ready { L.ready look.new }
+    requires ready { MayAsk (L.ready look.old) (L.names look.old) prog.now }
+    requires name { name.0 < length prog.now.names }
+    ensures ready { MayAsk (L.ready look.new) (L.names look.new) prog.now }
     ensures alike { L.alike look.old look.new }
     ensures runs { (G : Variables) → Runs (sites_of prog.now)
         (λ types. method_of types node.0 name.0 G receiver) (λ types. look_at node.0 (keys_of receiver name.0)) [] G
@@ -56,8 +58,9 @@ fn method_type<L: Lookup>(
     notes: &mut Notes,
     look: &mut L,
 ) -> Result<MethodTy, Stop>
-    requires ready { L.ready look.old }
-    ensures ready { L.ready look.new }
+    requires ready { MayAsk (L.ready look.old) (L.names look.old) prog.now }
+    requires name { name.0 < length prog.now.names }
+    ensures ready { MayAsk (L.ready look.new) (L.names look.new) prog.now }
     ensures alike { L.alike look.old look.new }
     ensures runs { (G : Variables) → Runs (sites_of prog.now)
         (λ types. with_type node.0 G (types (class.0, name.0))) (λ types. Look node.0 (class.0, name.0) ∷ []) [] G
@@ -81,8 +84,9 @@ fn ask<L: Lookup>(
     notes: &mut Notes,
     look: &mut L,
 ) -> Result<MethodTy, Stop>
-    requires ready { L.ready look.old }
-    ensures ready { L.ready look.new }
+    requires ready { MayAsk (L.ready look.old) (L.names look.old) prog.now }
+    requires name { name.0 < length prog.now.names }
+    ensures ready { MayAsk (L.ready look.new) (L.names look.new) prog.now }
     ensures alike { L.alike look.old look.new }
     ensures runs { site_among notes.old.uses.items (class.0, name.0) ≡ None → (G : Variables) → Runs (sites_of prog.now)
         (λ types. with_type node.0 G (types (class.0, name.0))) (λ types. Look node.0 (class.0, name.0) ∷ []) [] G

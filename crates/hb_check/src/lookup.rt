@@ -27,6 +27,9 @@ pub trait Lookup {
     /// Each site that it answers is below this number.
     ghost bound: { Self → ℕ };
 
+    /// Each name that it may be asked for is below this number.
+    ghost names: { Self → ℕ };
+
     /// The second is the first after some calls: what it was made with is the same.
     ghost alike: { Self → Self → Type 0 };
 
@@ -35,6 +38,8 @@ pub trait Lookup {
     ghost alike_on: { (a b c : Self) → alike a b → alike b c → alike a c };
 
     ghost bound_stays: { (a b : Self) → alike a b → bound a ≡ bound b };
+
+    ghost names_stay: { (a b : Self) → alike a b → names a ≡ names b };
 
     /// It may be asked.
     ghost ready: { Self → Type 0 };
@@ -47,6 +52,7 @@ pub trait Lookup {
         name: NameId,
     ) -> Result<Option<TypeSite>, LookFail>
         requires ready { ready self.old }
+        requires name { name.0 < names self.old }
         ensures ready { ready self.new }
         ensures alike { alike self.old self.new }
         ensures below { IfOk result (λ site. IfSome site (λ s. s.0 < bound self.old)) }

@@ -17,6 +17,7 @@ use Rattle.hb_tree.specs.Counts.{height}
 use Rattle.hb_tree.specs.Nodes.{numbers_of, node_at, exprs_of, blocks_of, parts_of}
 use Rattle.hb_tree.specs.TreeAt.{tree_at, tree_of}
 use Rattle.hb_tree.specs.Program.{IsProgram, HasParts, IsExprNode, IsBlockNode, IsNodeIn, IsBodyIn, IsTypeIn, IsRootIn, IsScriptIn, all_parts}
+use Rattle.hb_tree.specs.Roots.{roots}
 use Rattle.hb_tree.specs.Grows.{Grows, BeginsWith, IsFounded}
 use Rattle.hb_tree.specs.Spelling.{IsText}
 use Rattle.hb_tree.proofs.Lists.{each_weaker}
@@ -25,7 +26,8 @@ use Rattle.hb_tree.proofs.Growth.{parts-kept, expr_node-kept, block_node-kept, n
 use Rattle.hb_draft.specs.Kept.{IsDraft, IsKept, greatest, heights_of, heights_after}
 use Rattle.hb_draft.specs.Put.{IsOver, last_nodes}
 use Rattle.hb_draft.specs.Unfinished.{IsExprPart, IsBlockPart, KeepsRoots, trees_of}
-use Rattle.hb_draft.proofs.Lists.{each-append, each_both, each-front, each-back, slice_get-append, slice_get-last, slice_get-single, IsDistinct-front, IsDistinct-moved, IsDistinct-next}
+use Rattle.hb_draft.proofs.Apart.{apart-taken, roots-within}
+use Rattle.hb_draft.proofs.Lists.{each-append, each_both, each-front, each-back, slice_get-append, slice_get-last, slice_get-single, IsDistinct-front, IsDistinct-next}
 use Rattle.hb_draft.proofs.Heights.{height-parts, heights_of-numbers}
 use Rattle.hb_draft.proofs.Parts.{all_parts-within, height-node, expr_node-at, block_node-at}
 
@@ -185,8 +187,17 @@ module _ (t : Table) (ids : List NodeId) (ts : List (List ℕ)) (texts : AreText
     unfolding appended-grows taken
     all_parts-next = all_parts-grown t u appended-grows old_founded ∙ ap (λ js. all_parts t ++ js) (append-nil (parts_of u p.node) ∙ over.parts)
 
-    distinct : IsDistinct nat_eq ((all_parts t ++ numbers_of taken) ++ numbers_of kept)
-    distinct = IsDistinct-moved (all_parts t) (numbers_of kept) (numbers_of taken) (subst (λ js. IsDistinct nat_eq (all_parts t ++ js)) (sym (ap numbers_of both) ∙ map-append (λ i. i.0) kept taken) draft.apart)
+    -- those that were taken are parts now
+    nodes-next : List ℕ
+    nodes-next = (all_parts t ++ numbers_of taken) ++ roots t
+
+    distinct : IsDistinct nat_eq (nodes-next ++ numbers_of kept)
+    unfolding nodes-next
+    distinct = apart-taken (all_parts t) (roots t) (numbers_of kept) (numbers_of taken) (subst (λ js. IsDistinct nat_eq ((all_parts t ++ roots t) ++ js)) (sym (ap numbers_of both) ∙ map-append (λ i. i.0) kept taken) draft.apart)
+
+    parts-apart : IsDistinct nat_eq nodes-next → IsDistinct nat_eq (all_parts t ++ numbers_of taken)
+    unfolding nodes-next
+    parts-apart = IsDistinct-front nat_eq (all_parts t ++ numbers_of taken) (roots t)
 
     longer : length u.nodes ≡ id + 1
     longer = length-append t.nodes (p ∷ [])
@@ -208,7 +219,7 @@ module _ (t : Table) (ids : List NodeId) (ts : List (List ℕ)) (texts : AreText
         texts = texts.spelled;
       };
       nodes = λ j n e. elim (node_cases j n e) [ inl h ↦ node-kept t u appended-grows old_founded j n h (draft.program.nodes j n h) | inr h ↦ rw (h.0, h.1) node-next ];
-      apart = rw all_parts-next (IsDistinct-front nat_eq (all_parts t ++ numbers_of taken) (numbers_of kept) distinct);
+      apart = rw all_parts-next (parts-apart (IsDistinct-front nat_eq nodes-next (numbers_of kept) distinct));
       items = each_weaker (λ i. i.0 < id) (λ i. i.0 < length u.nodes) (λ i k. omega (arith, longer)) (t.items ++ is) (each-append (λ i. i.0 < id) t.items is draft.program.items next.items);
       bodies = λ site b e. elim (slice_get-append t.bodies bs site b e) [ inl h ↦ body-kept t u appended-grows old_founded site b (draft.program.bodies site b h) | inr h ↦ rw h.1 (next.bodies h.0 b h.2) ];
       types = λ site y e. elim (slice_get-append t.types ys site y e) [ inl h ↦ type-kept t u appended-grows site y (draft.program.types site y h) | inr h ↦ rw h.1 (next.types h.0 y h.2) ];
@@ -219,11 +230,18 @@ module _ (t : Table) (ids : List NodeId) (ts : List (List ℕ)) (texts : AreText
     kept_within : AllByRecursion (λ j. j < id) (numbers_of kept)
     kept_within = each-front (λ j. j < id) (numbers_of kept) (numbers_of taken) in_hand
 
-    all_below : AllByRecursion (λ j. j < id) ((all_parts t ++ numbers_of taken) ++ numbers_of kept)
+    all_below : AllByRecursion (λ j. j < id) (nodes-next ++ numbers_of kept)
+    unfolding nodes-next
     all_below =
-        each-append (λ j. j < id) (all_parts t ++ numbers_of taken) (numbers_of kept)
+        each-append (λ j. j < id) ((all_parts t ++ numbers_of taken) ++ roots t) (numbers_of kept)
+        (each-append (λ j. j < id) (all_parts t ++ numbers_of taken) (roots t)
         (each-append (λ j. j < id) (all_parts t) (numbers_of taken) (all_parts-within t old_founded) (each-back (λ j. j < id) (numbers_of kept) (numbers_of taken) in_hand))
+        (roots-within t old_founded draft.program))
         kept_within
+
+    apart-next : IsDistinct nat_eq ((nodes-next ++ numbers_of kept) ++ id ∷ []) → IsDistinct nat_eq ((all_parts u ++ roots u) ++ (numbers_of kept ++ id ∷ []))
+    unfolding nodes-next
+    apart-next h = rw all_parts-next (subst (λ js. IsDistinct nat_eq js) (append_assoc ((all_parts t ++ numbers_of taken) ++ roots t) (numbers_of kept) (id ∷ [])) h)
 
     hand_next : numbers_of (kept ++ record { 0 = id } ∷ []) ≡ numbers_of kept ++ id ∷ []
     hand_next = map-append (λ i. i.0) kept (record { 0 = id } ∷ [])
@@ -234,7 +252,7 @@ module _ (t : Table) (ids : List NodeId) (ts : List (List ℕ)) (texts : AreText
       program = program-next next;
       within = rw hand_next (each-append (λ j. j < length u.nodes) (numbers_of kept) (id ∷ [])
           (each_weaker (λ j. j < id) (λ j. j < length u.nodes) (λ j k. omega (arith, longer)) (numbers_of kept) kept_within) (omega (arith, longer), tt));
-      apart = rw (hand_next, all_parts-next, ← append_assoc (all_parts t ++ numbers_of taken) (numbers_of kept) (id ∷ [])) (IsDistinct-next id ((all_parts t ++ numbers_of taken) ++ numbers_of kept) all_below distinct);
+      apart = rw hand_next (apart-next (IsDistinct-next id (nodes-next ++ numbers_of kept) all_below distinct));
       few_items = omega (arith, draft.few_items, next.few_items, longer, length-append t.items is, ap length both, length-append kept taken, length-taken, length-append kept (record { 0 = id } ∷ []));
       few_texts = omega (arith, draft.few_texts, texts.few, longer);
       few_bodies = omega (arith, draft.few_bodies, next.few_bodies, longer, length-append t.bodies bs);

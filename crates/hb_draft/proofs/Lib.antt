@@ -1,5 +1,6 @@
 pub mod WordLists
 pub mod Lists
+pub mod Apart
 pub mod Parts
 pub mod Heights
 pub mod Append

@@ -1,10 +1,9 @@
 -- Lists that are joined: what holds of each element, and elements that differ.
-use Rattle.std.proofs.Common.{◌≡◌, ℕ, zero, suc, ◌+◌, ◌<◌, ◌⊎◌, Bool, false, List, [], ◌∷◌, ◌++◌, length, Some, refl, arith, inl, inr, append_assoc, flat_map}
+use Rattle.std.proofs.Common.{◌≡◌, ℕ, zero, suc, ◌+◌, ◌<◌, ◌⊎◌, Bool, false, List, [], ◌∷◌, ◌++◌, length, Some, refl, arith, inl, inr, flat_map}
 use Rattle.std.specs.Prelude.{slice_get, nat_eq}
 use Rattle.std.specs.List.{AllByRecursion, IsDistinct, list_any}
 use Rattle.std.proofs.lemmas.Cmp.{nat_eq_equiv}
-use Rattle.std.proofs.lemmas.List.Sorted.{IsPermutation-append_right, IsPermutation-append_comm}
-use Rattle.std.proofs.lemmas.Map.Keys.{IsDistinct-IsPermutation, IsDistinct-push}
+use Rattle.std.proofs.lemmas.Map.Keys.{IsDistinct-push}
 use Rattle.std.proofs.lemmas.Bool.{ne_eqb}
 use Rattle.std.proofs.lemmas.Option.{none-some}
 
@@ -49,12 +48,6 @@ module _ {X : Type 0} where
 pub each-flat_map : {X Y : Type 0} (P : Y → Type 0) (f : X → List Y) (xs : List X) → AllByRecursion (λ x. AllByRecursion P (f x)) xs → AllByRecursion P (flat_map f xs)
 each-flat_map P f [] h = tt
 each-flat_map P f (x ∷ xs) h = each-append P (f x) (flat_map f xs) h.0 (each-flat_map P f xs h.1)
-
--- the back of a list moves to the front of it
-pub IsDistinct-moved : (all kept taken : List ℕ) → IsDistinct nat_eq (all ++ (kept ++ taken)) → IsDistinct nat_eq ((all ++ taken) ++ kept)
-IsDistinct-moved all kept taken h =
-    rw append_assoc (IsDistinct-IsPermutation nat_eq nat_eq_equiv.symm (all ++ (kept ++ taken)) (all ++ (taken ++ kept))
-    (IsPermutation-append_right all (kept ++ taken) (taken ++ kept) (IsPermutation-append_comm kept taken)) h)
 
 -- a number is none of those below it
 none_equal : (id : ℕ) (js : List ℕ) → AllByRecursion (λ j. j < id) js → list_any (nat_eq id) js ≡ false

@@ -1,5 +1,5 @@
 -- Classes, names and scripts: the lists that grow without a node.
-use Rattle.std.proofs.Common.{◌≡◌, ℕ, ◌+◌, ◌-◌, ◌<◌, ◌≤◌, ◌^◌, List, [], ◌∷◌, ◌++◌, take, drop, length, length-append, length-take, append_assoc, false, Option, Some, refl, sym, ap, ◌∙◌, subst, arith, IfSome}
+use Rattle.std.proofs.Common.{◌≡◌, ℕ, ◌+◌, ◌-◌, ◌<◌, ◌≤◌, ◌^◌, List, [], ◌∷◌, ◌++◌, map, take, drop, length, length-append, length-take, append_assoc, false, Option, Some, refl, sym, ap, ◌∙◌, subst, arith, IfSome}
 use Rattle.std.specs.Prelude.{nat_eq, bytes_eq}
 use Rattle.std.specs.List.{AllByRecursion, IsDistinct, list_any}
 use Rattle.std.proofs.lemmas.List.{append-nil, take-append-drop, take-map, map-append, length-map}
@@ -13,6 +13,7 @@ use Rattle.hb_tree.specs.Counts.{height}
 use Rattle.hb_tree.specs.Nodes.{numbers_of}
 use Rattle.hb_tree.specs.TreeAt.{tree_at}
 use Rattle.hb_tree.specs.Program.{IsProgram, IsRootIn, IsScriptIn, all_parts}
+use Rattle.hb_tree.specs.Roots.{roots, setup_root}
 use Rattle.hb_tree.specs.Grows.{Grows, BeginsWith}
 use Rattle.hb_tree.proofs.Lists.{each_weaker}
 use Rattle.hb_tree.proofs.Trees.{id_of-tree_at}
@@ -21,6 +22,7 @@ use Rattle.hb_draft.specs.Kept.{IsDraft, IsKept, heights_of}
 use Rattle.hb_draft.specs.Put.{last_nodes}
 use Rattle.hb_draft.specs.Unfinished.{Unfinished, HasBlock, IsRootBlock, KeepsRoots, AddsClass, AddsName, AddsSetup, AddsScript, in_hand, trees_of}
 use Rattle.hb_draft.specs.Words.{with_word}
+use Rattle.hb_draft.proofs.Apart.{apart-setup, apart-script}
 use Rattle.hb_draft.proofs.Lists.{each-append, each-front, each-back, IsDistinct-front}
 use Rattle.hb_draft.proofs.WordLists.{with_word-new, with_word-begins, with_word-each, with_word-length, with_word-apart}
 use Rattle.hb_draft.proofs.Append.{founded, roots-grown, trees_of-grown, heights_of-grown, setup-kept, script_trees, setup_tree}
@@ -91,18 +93,18 @@ module _ (t : Table) (cs ns : List (List ℕ)) (st : Option NodeId) (ss : List (
       scripts = each_weaker (IsScriptIn t) (IsScriptIn u) (script-kept t u named-grows (founded t draft.program)) ss are.scripts;
     }
 
-    draft-named : IsDraft u ids
-    draft-named = record {
+    draft-named : IsDistinct nat_eq ((all_parts t ++ roots u) ++ numbers_of ids) → IsDraft u ids
+    draft-named apart = record {
       program = program-named;
       within = draft.within;
-      apart = subst (λ js. IsDistinct nat_eq (js ++ numbers_of ids)) (sym same_parts) draft.apart;
+      apart = subst (λ js. IsDistinct nat_eq ((js ++ roots u) ++ numbers_of ids)) (sym same_parts) apart;
       few_items = draft.few_items;
       few_texts = draft.few_texts;
       few_bodies = draft.few_bodies;
     }
 
-    pub kept-named : (hs : List ℕ) → hs ≡ heights_of t ids → IsKept u ids hs
-    kept-named hs same = record { draft = draft-named; same = same ∙ sym (heights_of-grown t u draft.program named-grows ids draft.within) }
+    pub kept-named : IsDistinct nat_eq ((all_parts t ++ roots u) ++ numbers_of ids) → (hs : List ℕ) → hs ≡ heights_of t ids → IsKept u ids hs
+    kept-named apart hs same = record { draft = draft-named apart; same = same ∙ sym (heights_of-grown t u draft.program named-grows ids draft.within) }
 
     pub hand-named : trees_of u ids ≡ trees_of t ids
     hand-named = trees_of-grown t u draft.program named-grows ids draft.within
@@ -118,8 +120,8 @@ draft-fewer t ids k draft =
       program = draft.program;
       within = each-front (λ j. j < length t.nodes) (numbers_of (take k ids)) (numbers_of (drop k ids)) (subst (AllByRecursion (λ j. j < length t.nodes)) split draft.within);
       apart =
-          IsDistinct-front nat_eq (all_parts t ++ numbers_of (take k ids)) (numbers_of (drop k ids))
-          (rw append_assoc (subst (λ js. IsDistinct nat_eq (all_parts t ++ js)) split draft.apart));
+          IsDistinct-front nat_eq ((all_parts t ++ roots t) ++ numbers_of (take k ids)) (numbers_of (drop k ids))
+          (rw (append_assoc (all_parts t ++ roots t) (numbers_of (take k ids)) (numbers_of (drop k ids))) (subst (λ js. IsDistinct nat_eq ((all_parts t ++ roots t) ++ js)) split draft.apart));
       few_items = omega (arith, draft.few_items, length-take k ids);
       few_texts = draft.few_texts;
       few_bodies = draft.few_bodies;
@@ -149,7 +151,7 @@ module _ (t : Table) (ids : List NodeId) (draft : IsDraft t ids) (word : List �
     }
 
     class_keeps : (hs : List ℕ) → hs ≡ heights_of t ids → IsKept (record t { classes = cs }) ids hs
-    class_keeps = kept-named t cs t.names t.setup t.scripts class_are ids draft
+    class_keeps = kept-named t cs t.names t.setup t.scripts class_are ids draft draft.apart
 
     class_adds : AddsClass old (record { table = record t { classes = cs }; nodes = ids }) word
     unfolding in_hand
@@ -179,7 +181,7 @@ module _ (t : Table) (ids : List NodeId) (draft : IsDraft t ids) (word : List �
     }
 
     name_keeps : (hs : List ℕ) → hs ≡ heights_of t ids → IsKept (record t { names = ns }) ids hs
-    name_keeps = kept-named t t.classes ns t.setup t.scripts name_are ids draft
+    name_keeps = kept-named t t.classes ns t.setup t.scripts name_are ids draft draft.apart
 
     name_adds : AddsName old (record { table = record t { names = ns }; nodes = ids }) word
     unfolding in_hand
@@ -188,6 +190,9 @@ module _ (t : Table) (ids : List NodeId) (draft : IsDraft t ids) (word : List �
       table = refl;
       roots = roots-named t t.classes ns t.setup t.scripts name_are ids draft refl refl;
     }
+
+abbrev script_roots : List (NameId × NodeId) → List ℕ
+script_roots ss = map (λ s. s.1.0) ss
 
 -- the block on top becomes that of the setup or of a script
 module _ (t : Table) (ids : List NodeId) (draft : IsDraft t ids) (b : NodeId) (has : HasBlock IsRootBlock (in_hand (record { table = t; nodes = ids }))) (last : last_nodes 1 ids ≡ b ∷ last_nodes 0 ids) where
@@ -200,11 +205,20 @@ module _ (t : Table) (ids : List NodeId) (draft : IsDraft t ids) (b : NodeId) (h
   block : IsBlock (tree_at t b.0) × IsRootBlock (tree_at t b.0)
   block = top_block before IsRootBlock has b last
 
+  -- the numbers in hand end with it
+  in_hand_is : numbers_of ids ≡ numbers_of kept ++ b.0 ∷ numbers_of (last_nodes 0 ids)
+  in_hand_is =
+      sym (ap numbers_of (take-append-drop (length ids - 1) ids))
+      ∙ map-append (λ i. i.0) kept (last_nodes 1 ids)
+      ∙ ap (λ taken. numbers_of kept ++ numbers_of taken) last
+
   low : b.0 < length t.nodes
   low =
-      (subst (AllByRecursion (λ j. j < length t.nodes)) (ap numbers_of last)
-      (each-back (λ j. j < length t.nodes) (numbers_of kept) (numbers_of (last_nodes 1 ids))
-      (subst (AllByRecursion (λ j. j < length t.nodes)) (sym (ap numbers_of (take-append-drop (length ids - 1) ids)) ∙ map-append (λ i. i.0) kept (last_nodes 1 ids)) draft.within))).0
+      (each-back (λ j. j < length t.nodes) (numbers_of kept) (b.0 ∷ numbers_of (last_nodes 0 ids))
+      (subst (AllByRecursion (λ j. j < length t.nodes)) in_hand_is draft.within)).0
+
+  apart : IsDistinct nat_eq ((all_parts t ++ roots t) ++ (numbers_of kept ++ b.0 ∷ numbers_of (last_nodes 0 ids)))
+  apart = subst (λ js. IsDistinct nat_eq ((all_parts t ++ roots t) ++ js)) in_hand_is draft.apart
 
   root : IsRootIn t b
   root = record { block = block_node-at t (founded t draft.program) b.0 low block.0; few_variables = block.1 }
@@ -245,7 +259,9 @@ module _ (t : Table) (ids : List NodeId) (draft : IsDraft t ids) (b : NodeId) (h
       ∙ take-map (λ i. height (tree_at t i.0)) (length ids - 1) ids
 
   setup_keeps : (hs : List ℕ) → hs ≡ heights_of t ids → IsKept (record t { setup = Some b }) kept (take (length hs - 1) hs)
-  setup_keeps hs same = kept-named t t.classes t.names (Some b) t.scripts setup_are kept fewer (take (length hs - 1) hs) (heights_fewer hs same)
+  setup_keeps hs same =
+      kept-named t t.classes t.names (Some b) t.scripts setup_are kept fewer
+      (apart-setup (all_parts t) (setup_root t.setup) (script_roots t.scripts) (numbers_of kept) (numbers_of (last_nodes 0 ids)) b.0 apart) (take (length hs - 1) hs) (heights_fewer hs same)
 
   setup_adds : AddsSetup before (record { table = record t { setup = Some b }; nodes = kept })
   unfolding in_hand
@@ -281,7 +297,10 @@ module _ (t : Table) (ids : List NodeId) (draft : IsDraft t ids) (b : NodeId) (h
     }
 
     script_keeps : (hs : List ℕ) → hs ≡ heights_of t ids → IsKept (record t { scripts = ss }) kept (take (length hs - 1) hs)
-    script_keeps hs same = kept-named t t.classes t.names t.setup ss script_are kept fewer (take (length hs - 1) hs) (heights_fewer hs same)
+    script_keeps hs same =
+        kept-named t t.classes t.names t.setup ss script_are kept fewer
+        (subst (λ js. IsDistinct nat_eq ((all_parts t ++ (setup_root t.setup ++ js)) ++ numbers_of kept)) (sym (map-append (λ s. s.1.0) t.scripts ((name, b) ∷ [])))
+        (apart-script (all_parts t) (setup_root t.setup) (script_roots t.scripts) (numbers_of kept) (numbers_of (last_nodes 0 ids)) b.0 apart)) (take (length hs - 1) hs) (heights_fewer hs same)
 
     script_adds : AddsScript before (record { table = record t { scripts = ss }; nodes = kept }) name.0
     unfolding in_hand

@@ -5,7 +5,8 @@ ghost use Rattle.std.specs.List.{list_any};
 ghost use Rattle.hb_tree.specs.Tree.{TNil, TSelf, TInt, TVar, TNew, TAssign, TPrint, TToStr, TNot};
 ghost use Rattle.hb_tree.specs.Counts.{height};
 ghost use Rattle.hb_tree.specs.Spelling.{IsClassName, IsName, IsText};
-ghost use Rattle.hb_tree.specs.Program.{IsMethodTyIn};
+ghost use Rattle.hb_tree.specs.Program.{IsMethodTyIn, IsProgram};
+ghost use Rattle.hb_tree.specs.Roots.{IsReachedOnce};
 
 use crate::pieces::{arg_list, body_of, last_of, placed, push_node};
 use crate::words::Words;
@@ -528,7 +529,9 @@ impl Draft {
 
     /// The program of the lists. What is still in hand stays a part of none.
     pub fn finish(self) -> Result<Program, AllocError>
-        ensures { IfOk result (λ p. p ≡ self.table) }
+        ensures table { IfOk result (λ p. p ≡ self.table) }
+        ensures program { IfOk result IsProgram }
+        ensures once { IfOk result IsReachedOnce }
     {
         let Draft {
             alloc,

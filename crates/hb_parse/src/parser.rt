@@ -1,9 +1,11 @@
 //! The program of a text's tokens.
 
-ghost use Rattle.std.specs.Prelude.{◌≡◌, ◌⊎◌, ◌<◌, ◌≤◌, ◌+◌, ◌-◌, ◌^◌, IfSome, MatchResult, length, slice_get};
+ghost use Rattle.std.specs.Prelude.{◌≡◌, ◌⊎◌, ◌<◌, ◌≤◌, ◌+◌, ◌-◌, ◌^◌, IfOk, IfSome, MatchResult, length, slice_get};
 ghost use Rattle.hb_lex.specs.Place.{column_at, line_at};
 ghost use Rattle.hb_lex.specs.Text.{HasTokens};
 ghost use Rattle.hb_lex.specs.Tokens.{Stands};
+ghost use Rattle.hb_tree.specs.Canon.{canon};
+ghost use Rattle.hb_tree.specs.Roots.{IsReachedOnce};
 ghost use Rattle.hb_build.specs.Follow.{bytes_in, first_byte, last_of, spot_at};
 ghost use Rattle.hb_parse.specs.Text.{IsFault, IsProgramOf, byte_of};
 
@@ -70,16 +72,18 @@ fn bytes_in(text: &[u8], token: Option<Token>) -> &[u8]
     }
 }
 
-/// The program that the tokens of a text say.
+/// The program that the tokens of a text say. None of its nodes is reached twice, so its canonical text is short.
 ///
 /// An error is their first fault, from left to right, exactly; only memory may run out beside it.
 /// (docs/FORMATS.md, "The faults of a text")
 pub fn parse(alloc: Global, text: &[u8], tokens: &Tokens) -> Result<Program, ParseFail>
     requires size { length text.now < 2 ^ 32 - 1 }
     requires tokens { HasTokens text.now tokens.now }
-    ensures { MatchResult result
+    ensures answer { MatchResult result
         (λ program. IsProgramOf text.now tokens.now program)
         (λ fault. IsFault text.now tokens.now fault ⊎ (fault ≡ ParseFail.NoMemory)) }
+    ensures once { IfOk result IsReachedOnce }
+    ensures short { IfOk result (λ program. length (canon program) < 2 ^ 28) }
 {
     tokens_stand();
     let tokens = tokens.as_slice();

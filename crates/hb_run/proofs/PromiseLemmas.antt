@@ -1,11 +1,15 @@
 -- Why each history keeps the promise.
-use Rattle.std.proofs.Common.{◌≡◌, ℕ, List, [], ◌∷◌, Option, Some, None, Bool, true, false, refl, sym, ap, ◌∙◌, subst}
-use Rattle.std.specs.Prelude.{◌↔◌}
+use Rattle.std.proofs.Common.{◌≡◌, ℕ, zero, suc, ◌<◌, ◌+◌, List, [], ◌∷◌, ◌++◌, length, map, Option, Some, None, Bool, true, false, refl, sym, ap, ◌∙◌, subst, arith, option_map}
+use Rattle.std.specs.Prelude.{◌↔◌, Contains, slice_get}
 use Rattle.std.specs.List.{AllByRecursion}
+use Rattle.std.proofs.lemmas.List.Elements.{Contains-append_right}
+use Rattle.std.proofs.lemmas.Option.{none-some}
+use Rattle.hb_types.specs.declared.ids.NameId.{NameId}
 use Rattle.hb_types.specs.declared.types.Ty.{Ty}
 use Rattle.hb_types.specs.declared.types.MethodTy.{MethodTy}
 use Rattle.hb_types.specs.declared.ids.NodeId.{NodeId}
 use Rattle.hb_tree.specs.declared.parts.Body.{Body}
+use Rattle.hb_tree.specs.Roots.{roots, setup_root}
 use Rattle.hb_tree.specs.Table.{Table}
 use Rattle.hb_tree.specs.TreeAt.{tree_at}
 use Rattle.hb_deriv.specs.Judge.{Types}
@@ -20,9 +24,12 @@ use Rattle.hb_tables.specs.declared.entry.Verdict.TheVariants as verdict
 use Rattle.hb_tables.specs.Rows.{FitsCall, body_at, kinds_of, type_of_key, types_in}
 use Rattle.hb_tables.specs.Verdicts.{Reaches, as_fresh, verdict_of}
 use Rattle.hb_eval.specs.Told.{Told, is_done}
-use Rattle.hb_sound.specs.Scripts.{EndsWell}
+use Rattle.hb_eval.specs.declared.stop.Outcome.TheVariants.{Stopped}
+use Rattle.hb_eval.specs.declared.stop.Stop.{Stop}
+use Rattle.hb_sound.specs.Scripts.{EndsWell, IsInBody}
+use Rattle.hb_sound.specs.Sound.{IsNamed}
 use Rattle.hb_run.specs.History.{AreAllRuns, AreRuns, IsRunOf, RunBehind, block_of, callers_from}
-use Rattle.hb_run.specs.Headline.{DoesEnter, EntersRightly, StopsRightly}
+use Rattle.hb_run.specs.Headline.{DoesEnter, EntersRightly, StopsInBodies, StopsRightly}
 
 -- a verdict enters exactly where a fresh one does
 enters-fresh : (v : Verdict) → DoesEnter v → as_fresh v ≡ verdict.Enter by.Fresh
@@ -83,3 +90,19 @@ stops-rightly t names steps log c r law x = λ block is.
     let same : block ≡ x.block = same-some x.block block (block_of t c) x.runs own in
     let ends : EndsWell (tree_at t x.block.0) r.outcome = subst (λ (y : Told). EndsWell (tree_at t x.block.0) y.outcome) (sym x.tells) (law x) in
     subst (λ (b : NodeId). EndsWell (tree_at t b.0) r.outcome) (sym same) ends
+
+-- the block that a caller runs is a root
+script-root : (ss : List (NameId × NodeId)) (i : ℕ) (b : NodeId) → option_map (λ s. s.1) (slice_get ss i) ≡ Some b → Contains (map (λ s. s.1.0) ss) b.0
+script-root [] i b e = absurd (none-some b e)
+script-root (s ∷ ss) zero b e = let same : s.1 ≡ b = cc in (0, omega arith, ap (λ (n : NodeId). n.0) same)
+script-root (s ∷ ss) (suc i) b e = let r = script-root ss i b e in (suc r.0, (let n = r.1 in omega (arith, n)), r.2)
+
+block-root : (t : Table) (c : ℕ) (b : NodeId) → block_of t c ≡ Some b → Contains (roots t) b.0
+block-root t zero b e = subst (λ (o : Option NodeId). Contains (setup_root o ++ map (λ s. s.1.0) t.scripts) b.0) (sym e) (0, omega arith, refl)
+block-root t (suc i) b e = Contains-append_right (setup_root t.setup) (map (λ s. s.1.0) t.scripts) b.0 (script-root t.scripts i b e)
+
+pub stops-in-bodies : (t : Table) (names : List Name) (steps : ℕ) (log : List Entry) (c : ℕ) (r : Told)
+    → ((x : IsRunOf t names steps log c r) (e : Stop) (id : NodeId) → Contains (roots t) x.block.0 → x.run.outcome ≡ Stopped e id → IsInBody t id.0 → IsNamed e)
+    → IsRunOf t names steps log c r → StopsInBodies t r
+stops-in-bodies t names steps log c r law x = λ e id stops body.
+    law x e id (block-root t c x.block x.runs) (sym (ap (λ (y : Told). y.outcome) x.tells) ∙ stops) body

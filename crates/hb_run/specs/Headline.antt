@@ -19,7 +19,10 @@ use Rattle.hb_tables.specs.Frames.{acts, StaysLive}
 use Rattle.hb_tables.specs.Rows.{body_at, kinds_of, type_of_key, types_in}
 use Rattle.hb_tables.specs.Verdicts.{Reaches}
 use Rattle.hb_eval.specs.Told.{Told}
-use Rattle.hb_sound.specs.Scripts.{EndsWell}
+use Rattle.hb_eval.specs.declared.stop.Outcome.TheVariants.{Stopped}
+use Rattle.hb_eval.specs.declared.stop.Stop.{Stop}
+use Rattle.hb_sound.specs.Scripts.{EndsWell, IsInBody}
+use Rattle.hb_sound.specs.Sound.{IsNamed}
 use Rattle.hb_run.specs.History.{block_of}
 
 -- the verdict enters the body
@@ -37,9 +40,13 @@ abbrev pub KeepsTypes : List Entry → Type 0
 KeepsTypes log = (c q k d : ℕ) (before rest after : List Entry) (key : KeyId) (site : TypeSite)
     → log ≡ (before ++ rest) ++ entry d (Retype key site) ∷ after → StaysLive q (acts c rest) → times (c, q) (spot k before).calls ≡ 1 → key.0 ≡ k → ⊥
 
--- A run stops for a named cause, or at a node of its own block. So an entered body stops only for a named cause.
+-- A run stops for a named cause, or at a node of its own block.
 abbrev pub StopsRightly : Table → Told → Type 0
 StopsRightly t r = (block : NodeId) → block_of t r.caller ≡ Some block → EndsWell (tree_at t block.0) r.outcome
+
+-- A run that stops at a node of an expression in a definition's body stops for a named cause.
+abbrev pub StopsInBodies : Table → Told → Type 0
+StopsInBodies t r = (e : Stop) (id : NodeId) → r.outcome ≡ Stopped e id → IsInBody t id.0 → IsNamed e
 
 -- What is promised of each history: of its calls, of the types that live frames use, and of how its runs end.
 pub record KeepsPromise (t : Table) (names : List Name) (log : List Entry) (runs : List Told) : Type 0 where

@@ -20,7 +20,7 @@ ghost use Rattle.hb_tables.specs.declared.entry.Entry.{Entry};
 ghost use Rattle.hb_tables.specs.declared.entry.Verdict.TheVariants.{Enter};
 ghost use Rattle.hb_tables.specs.Frames.{acts};
 ghost use Rattle.hb_tables.specs.History.{IsLegal};
-ghost use Rattle.hb_tables.specs.Rows.{HasCallRows, IsDecided, kinds_of};
+ghost use Rattle.hb_tables.specs.Rows.{HasCallRows, IsDecided, kinds_of, types_in};
 ghost use Rattle.hb_eval.specs.declared.stop.Outcome.TheVariants.{Stopped};
 ghost use Rattle.hb_eval.specs.declared.stop.Stop.{Stop};
 ghost use Rattle.hb_eval.specs.declared.value.Value.{Value};
@@ -31,7 +31,7 @@ ghost use Rattle.hb_eval.specs.State.{St};
 ghost use Rattle.hb_eval.specs.Values.{kind_of};
 ghost use Rattle.hb_sound.specs.Bodies.{Enters, IsJudgedIn, begun_with};
 ghost use Rattle.hb_sound.specs.Frames.{AreLive, Frame};
-ghost use Rattle.hb_sound.specs.Parts.{IsPart};
+ghost use Rattle.hb_sound.specs.Parts.{IsPart, IsReached};
 ghost use Rattle.hb_sound.specs.Scripts.{EndsWell, IsInBody};
 ghost use Rattle.hb_sound.specs.Sound.{IsNamed, Sound, Stands};
 
@@ -42,11 +42,14 @@ pub fn entered_bodies_are_judged()
         → Enters t names c (record { q = q.0; call = Call q key site args (Enter way); before = before; after = after }) key.0 site (kinds_of args) }
 {}
 
-/// Each part of an expression that is judged in the tables at a frame's Call is judged there too.
+/// Each part of an expression that is judged in the tables at a frame's Call is reached with some variables, and is judged there from these.
 pub fn parts_are_judged()
-    ensures { (t : Table) (names : List Name) (c : ℕ) (f : Frame) (me : ℕ) (G behind : Variables) (e : Tree) (ty : Ty)
+    ensures reached { (t : Table) (names : List Name) (c : ℕ) (f : Frame) (me : ℕ) (G behind : Variables) (e : Tree) (ty : Ty)
         → IsJudgedIn t names c f me G e behind ty → (x : Tree) → IsPart x e
-        → (H after : Variables) × (u : Ty) × IsJudgedIn t names c f me H x after u }
+        → (H : Variables) × IsReached (types_in t names f.before) me x H e G }
+    ensures judged { (t : Table) (names : List Name) (c : ℕ) (f : Frame) (me : ℕ) (G behind : Variables) (e : Tree) (ty : Ty)
+        → IsJudgedIn t names c f me G e behind ty → (x : Tree) (H : Variables) → IsReached (types_in t names f.before) me x H e G
+        → (after : Variables) × (u : Ty) × IsJudgedIn t names c f me H x after u }
 {}
 
 /// In a live frame, whatever others do to the tables: an expression that is judged in the tables at the frame's Call gives a value of its type and leaves each variable with one of its type, or it stops for a named cause. Behind a value the frame is live, and so are those below it.

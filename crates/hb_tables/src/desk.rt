@@ -64,7 +64,8 @@ pub trait Desk {
     fn reserve(&mut self, alloc: Global, n: u32) -> Result<(), AllocError>
         ensures front { front self.new ≡ front self.old }
         ensures fixed { fixed self.new ≡ fixed self.old }
-        ensures spare { IfOk result (λ _. n ≤ spare self.new) };
+        ensures spare { IfOk result (λ _. n ≤ spare self.new) }
+        ensures kept { spare self.old ≤ spare self.new };
 
     /// The call holds the key from here on. It takes the room of its `free` too.
     fn hold(&mut self, q: CallNo, key: KeyId) -> Held

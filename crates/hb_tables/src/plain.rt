@@ -104,6 +104,7 @@ impl PlainTables {
         ensures door { (self.new.caller ≡ self.old.caller) × (self.new.opened ≡ self.old.opened) }
         ensures limit { self.new.limit ≡ self.old.limit }
         ensures spare { IfOk result (λ _. n ≤ self.new.spare) }
+        ensures kept { self.old.spare ≤ self.new.spare }
     {
         let wanted = self.owed.checked_add(n as usize).ok_or(AllocError)?;
         self.history.reserve(wanted)

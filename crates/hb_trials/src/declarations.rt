@@ -68,7 +68,7 @@ impl Declarations {
 }
 
 impl Lookup for Declarations {
-    ghost use Rattle.std.proofs.Common.{◌≡◌, ◌∙◌, refl};
+    ghost use Rattle.std.proofs.Common.{◌≡◌, ◌∙◌, ◌^◌, refl};
     ghost use Rattle.hb_trials.specs.Declarations.{answers_in, refusal_in};
 
     ghost answers = { λ t. answers_in t };
@@ -77,6 +77,8 @@ impl Lookup for Declarations {
 
     ghost bound = { λ t. 65536 };
 
+    ghost names = { λ t. 2 ^ 32 };
+
     ghost alike = { λ a b. a.declared.items ≡ b.declared.items };
 
     ghost alike_itself = { λ a. refl };
@@ -84,6 +86,8 @@ impl Lookup for Declarations {
     ghost alike_on = { λ a b c e f. e ∙ f };
 
     ghost bound_stays = { λ a b e. refl };
+
+    ghost names_stay = { λ a b e. refl };
 
     ghost ready = { λ _. Unit {0} };
 

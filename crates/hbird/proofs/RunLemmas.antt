@@ -1,7 +1,7 @@
 -- What reading a text to its end says of what is due.
 use Rattle.std.proofs.Common.{◌≡◌, ◌≢◌, ◌∙◌, ◌≤◌, ◌<◌, ◌+◌, ◌⊎◌, inl, inr, ℕ, List, [], ◌∷◌, ◌++◌, Some, None, Ok, Err, refl, sym, ap, subst, length, length-append, arith, append-nil, rules, Bool, true, false}
 use Rattle.std.specs.Prelude.{IfOk, IsNone, if◌then◌else◌}
-use Rattle.std.specs.List.{list_all}
+use Rattle.std.specs.List.{AllByRecursion, list_all}
 use Rattle.std.specs.Io.KnownBytes.{Keeps}
 use Rattle.std.specs.declared.option.Option.{Option}
 use Rattle.std.specs.declared.result.Result.{Result}
@@ -22,7 +22,7 @@ use Rattle.hbird.specs.Outcomes.{IsDue, IsDueBy, IsRefused, Outcome, faulty, sta
 use Rattle.hb_names.specs.Names.{Name}
 use Rattle.hb_tables.specs.declared.entry.Entry.{Entry}
 use Rattle.hb_tables.specs.declared.entry.TheConstants.{VERSIONS_MAX}
-use Rattle.hb_run.specs.Headline.{KeepsPromise}
+use Rattle.hb_run.specs.Headline.{KeepsPromise, StopsInBodies}
 use Rattle.hb_run.specs.History.{IsHistory}
 use Rattle.hb_report.specs.Report.{report_of}
 use Rattle.hbird.specs.Reports.{ComesTo, IsReported, ending_of, is_alone, reported}
@@ -156,7 +156,7 @@ answers-came asked job old new o answer same due_asked came kept read write =
 
 -- the report of these runs
 pub due-reported : (t : Table) (len : ℕ) (names : List Name) (log : List Entry) (runs : List Told) (ending : Ending) (text : List ℕ)
-    → IsHistory t VERSIONS_MAX STEPS names log runs → KeepsPromise t names log runs → ending ≡ ending_of runs → text ≡ report_of t runs
+    → IsHistory t VERSIONS_MAX STEPS names log runs → KeepsPromise t names log runs → AllByRecursion (StopsInBodies t) runs → ending ≡ ending_of runs → text ≡ report_of t runs
     → (o : Outcome) × IsReported t len o × (ending ≡ o.ending) × (text ≡ o.text) × (o.takes ≡ len)
-due-reported t len names log runs ending text history promise e f =
-    (reported t runs len, record { names = names; log = log; runs = runs; history = history; promise = promise; same = refl }, e, f, refl)
+due-reported t len names log runs ending text history promise bodies e f =
+    (reported t runs len, record { names = names; log = log; runs = runs; history = history; promise = promise; bodies = bodies; same = refl }, e, f, refl)

@@ -1,12 +1,12 @@
 -- What a program comes to: the report of its runs.
 use Rattle.std.specs.Prelude.{◌≡◌, ℕ, List, length, Bool, true, false, ◌&&◌, nat_le, is_none, codes, if◌then◌else◌}
-use Rattle.std.specs.List.{list_all}
+use Rattle.std.specs.List.{AllByRecursion, list_all}
 use Rattle.hb_tree.specs.Table.{Table}
 use Rattle.hb_names.specs.Names.{Name}
 use Rattle.hb_tables.specs.declared.entry.Entry.{Entry}
 use Rattle.hb_tables.specs.declared.entry.TheConstants.{VERSIONS_MAX}
 use Rattle.hb_eval.specs.Told.{Told, is_done}
-use Rattle.hb_run.specs.Headline.{KeepsPromise}
+use Rattle.hb_run.specs.Headline.{KeepsPromise, StopsInBodies}
 use Rattle.hb_run.specs.History.{IsHistory}
 use Rattle.hb_report.specs.Report.{report_of}
 use Rattle.hbird.specs.Outcomes.{Outcome}
@@ -30,13 +30,14 @@ reported t runs len = record { ending = ending_of runs; text = report_of t runs;
 abbrev pub not_yet : ℕ → Outcome
 not_yet len = record { ending = TextRefused; text = codes "text NotYet\n"; takes = len }
 
--- The report is that of the program's runs against one legal history, which holds each of their table calls once. Each call enters exactly where a fresh check succeeds, no type that a live frame uses is changed, and an entered body stops only for a named cause.
+-- The report is that of the program's runs against one legal history, which holds each of their table calls once. Each call enters exactly where a fresh check succeeds, no type that a live frame uses is changed, and a stop at a node in a definition's body is for a named cause.
 pub record IsReported (t : Table) (len : ℕ) (o : Outcome) : Type 0 where
   pub names : List Name
   pub log : List Entry
   pub runs : List Told
   pub history : IsHistory t VERSIONS_MAX STEPS names log runs
   pub promise : KeepsPromise t names log runs
+  pub bodies : AllByRecursion (StopsInBodies t) runs
   pub same : o ≡ reported t runs len
 
 -- what a program comes to, by whether it is alone

@@ -7,6 +7,7 @@ ghost use Rattle.hb_eval.specs.Told.{told_by};
 ghost use Rattle.hb_io.specs.Causes.{Rose};
 ghost use Rattle.hb_io.specs.Moves.{TakesCount};
 ghost use Rattle.hb_tree.specs.Program.{IsProgram};
+ghost use Rattle.hb_tree.specs.Roots.{IsReachedOnce};
 ghost use Rattle.hbird.specs.Answers.{Answers, Ends, IsDueFor, IsOne, IsReadAs, IsRunOf, IsRunOutcome, Reads};
 ghost use Rattle.hbird.specs.Faults.{fault_line};
 ghost use Rattle.hbird.specs.Jobs.{job_of};
@@ -61,7 +62,9 @@ fn is_alone(program: &Program) -> bool
 
 // The report of the runs of a program that is alone.
 fn run_program(alloc: Global, program: &Program) -> Result<Due, Stop>
-    requires { is_alone program.now ≡ true }
+    requires alone { is_alone program.now ≡ true }
+    requires program { IsProgram program.now }
+    requires once { IsReachedOnce program.now }
     ensures due { (len : ℕ) → IfOk result (λ due. IsDueBy (IsReported program.now len) len due) }
     ensures memory { OnErr result (result ≡ Err Stop.Memory) }
 {
@@ -74,6 +77,7 @@ fn run_program(alloc: Global, program: &Program) -> Result<Due, Stop>
 
 // The report of a program's runs, or that it has a setup or more than one script.
 fn run_whole(alloc: Global, program: &Program) -> Result<Due, Stop>
+    requires { IsReachedOnce program.now }
     ensures is { IsProgram program.now }
     ensures due { (len : ℕ) → IfOk result (λ due. IsDueBy (ComesTo program.now (is_alone program.now) len) len due) }
     ensures memory { OnErr result (result ≡ Err Stop.Memory) }

@@ -1,5 +1,6 @@
 use Rattle.std.proofs.Common.{◌≡◌, ◌+◌, ◌*◌, [], drop, length}
 use Rattle.hb_tree.specs.TreeAt.{forest_at, tree_at}
+use Rattle.hb_check.specs.Asked.{MayAsk}
 use Rattle.hb_check.specs.Checked.{Checks, ChecksArgs, ChecksItems}
 use Rattle.hb_check.specs.Runs.{state}
 use Rattle.hb_check.proofs.PartLemmas.{Leads}
@@ -38,7 +39,7 @@ decreases-check_items g l = l.block.0 * 4 + 2
 -- what the arguments that are left come to, the whole comes to; each argument before has its type in hand
 abbrev pub invariant-check_args-loop-arg : goal.invariant-check_args-loop-arg
 invariant-check_args-loop-arg g l = record {
-  ready : g.L.Lookup.ready l.look;
+  ready : MayAsk (g.L.Lookup.ready l.look) (g.L.Lookup.names l.look) l.scene.prog.now;
   alike : g.L.Lookup.alike l.fn.look l.look;
   count : length l.types.items ≡ l.arg-index;
   leads : Leads
@@ -49,7 +50,7 @@ invariant-check_args-loop-arg g l = record {
 -- what the items that are left come to, the block comes to
 abbrev pub invariant-check_items-loop-item : goal.invariant-check_items-loop-item
 invariant-check_items-loop-item g l = record {
-  ready : g.L.Lookup.ready l.look;
+  ready : MayAsk (g.L.Lookup.ready l.look) (g.L.Lookup.names l.look) l.scene.prog.now;
   alike : g.L.Lookup.alike l.fn.look l.look;
   leads : Leads
       (ChecksItems l.scene.prog.now l.scene.class.0 (forest_at (tree_at l.scene.prog.now) (drop l.item-index l.item-items)) l.env l.last (state (g.L.Lookup.answers l.look) (g.L.Lookup.refused l.look) l.notes))

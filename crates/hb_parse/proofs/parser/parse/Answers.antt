@@ -3,6 +3,7 @@ use Rattle.std.specs.Prelude.{All}
 use Rattle.std.proofs.lemmas.Result.{err_from_is_err_and}
 use Rattle.hb_lex.specs.declared.spans.Token.{Token}
 use Rattle.hb_lex.specs.Tokens.{AreInOrder, Stands}
+use Rattle.hb_tree.proofs.CanonLemmas.{canon-short}
 use Rattle.hb_grammar.specs.Course.{ComesTo, StopsAt}
 use Rattle.hb_build.specs.declared.held.Spot.{Spot}
 use Rattle.hb_build.specs.declared.faults.ParseFail.TheVariants as fail
@@ -82,8 +83,8 @@ act-requires-clause-room c =
     let few = few-tokens c.args.text.now c.as_slice-tokens.result.now ordered standing in
     omega (arith, names, few, k.within, ap length k.same, c.requires.size)
 
-pub returns-in_err-act-in-Act : goal.returns-in_err-act-in-Act
-returns-in_err-act-in-Act c =
+pub returns-in_err-act-in-Act-clause-answer : goal.returns-in_err-act-in-Act-clause-answer
+returns-in_err-act-in-Act-clause-answer c =
     let k = c.loop-builder.invariant in
     let comes : ComesTo c.loop-builder.course c.in-Act.action c.next_step.new.self = rw c.in-Act.is at c.in_ok-action.ensures.comes in
     let fault = err_from_is_err_and c.from_residual-in_err-act-in-Act.result c.from_residual-in_err-act-in-Act.ensures.1 in
@@ -95,15 +96,18 @@ returns-in_err-act-in-Act c =
       | inr none ↦ inr (fault.2 ∙ none)
     ])
 
-pub returns-in-Done : goal.returns-in-Done
-returns-in-Done c =
+pub returns-in-Done-clause-answer : goal.returns-in-Done-clause-answer
+returns-in-Done-clause-answer c =
     let k = c.loop-builder.invariant in
     let does = rw c.in-Done.is at c.in_ok-action.ensures.comes in
     let says = at-the-end c.args.text.now c.as_slice-tokens.result.now c.loop-builder.course c.loop-builder.builder c.loop-builder.spot k does in
-    subst (λ (x : Said). Says c.args.text.now c.args.tokens.now x) (sym c.in_ok-finish-in-Done.ensures) (subst (λ (x : List Token). Says c.args.text.now x (work_of c.loop-builder.builder).said) c.as_slice-tokens.ensures says)
+    subst (λ (x : Said). Says c.args.text.now c.args.tokens.now x) (sym c.in_ok-finish-in-Done.ensures.said) (subst (λ (x : List Token). Says c.args.text.now x (work_of c.loop-builder.builder).said) c.as_slice-tokens.ensures says)
 
-pub returns-in-Missed : goal.returns-in-Missed
-returns-in-Missed c =
+pub returns-in-Done-clause-short : goal.returns-in-Done-clause-short
+returns-in-Done-clause-short c = canon-short _ c.in_ok-finish-in-Done.ensures.program c.in_ok-finish-in-Done.ensures.once
+
+pub returns-in-Missed-clause-answer : goal.returns-in-Missed-clause-answer
+returns-in-Missed-clause-answer c =
     let k = c.loop-builder.invariant in
     let stops : StopsAt c.loop-builder.course c.in-Missed.wanted c.next_step.new.self = rw c.in-Missed.is at c.in_ok-action.ensures.comes in
     let actions = at-a-miss c.args.text.now c.as_slice-tokens.result.now c.loop-builder.course c.next_step.new.self c.loop-builder.builder c.loop-builder.spot c.in-Missed.wanted k stops in

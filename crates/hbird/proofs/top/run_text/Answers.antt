@@ -7,8 +7,8 @@ returns-in-Err-clause-due c =
 
 pub returns-in-Ok-parse-clause-due : goal.returns-in-Ok-parse-clause-due
 returns-in-Ok-parse-clause-due c =
-    text-whole c.args.text.now _ _ c.run_whole.result c.in-Ok.ensures.tokens c.in-Ok-parse.ensures c.run_whole.ensures.is (c.run_whole.ensures.due _)
+    text-whole c.args.text.now _ _ c.run_whole.result c.in-Ok.ensures.tokens c.in-Ok-parse.ensures.answer c.run_whole.ensures.is (c.run_whole.ensures.due _)
 
 pub returns-clause-due : goal.returns-clause-due
 returns-clause-due c =
-    text-parse_fault c.args.text.now _ _ _ c.refused-in-Err-parse.result c.in-Ok.ensures.tokens c.in-Err-parse.ensures c.parse_fault.ensures c.refused-in-Err-parse.ensures.due
+    text-parse_fault c.args.text.now _ _ _ c.refused-in-Err-parse.result c.in-Ok.ensures.tokens c.in-Err-parse.ensures.answer c.parse_fault.ensures c.refused-in-Err-parse.ensures.due

@@ -7,16 +7,13 @@ use Rattle.hb_call.specs.Calling.{Given, IsAsking, IsCalling, Moment}
 use Rattle.hb_call.proofs.EnteringLemmas.{bytes_found}
 use Rattle.hb_call.proofs.LookingLemmas.{asking_key, asking_names}
 use Rattle.hb_names.proofs.NameLemmas.{with_name-begins}
-use Rattle.hb_call.specs.Alike.{alike_itself, alike_on, asking_itself}
+use Rattle.hb_call.specs.Alike.{alike_on}
 use Rattle.hb_call.specs.Seen.{given_of, moment_of}
 use Rattle.hb_call.specs.GrowthLaws.{prefix_itself}
 use Rattle.hb_call.proofs.GrowthLemmas.{asked_now}
 use Rattle.hb_call.proofs.StepLemmas.{at, goes_key, goes_names}
 use Rattle.hb_call.proofs.CallingLemmas.{calling_as, named_on}
 use Rattle.hb_call.proofs.call.Call.answer.Goals as goal
-
-pub returns-then-name-names-clause-alike : goal.returns-then-name-names-clause-alike
-returns-then-name-names-clause-alike g c = alike_itself _ _
 
 pub returns-in-Err-Full-clause-calling : goal.returns-in-Err-Full-clause-calling
 returns-in-Err-Full-clause-calling g c =
@@ -67,9 +64,6 @@ returns-clause-calling g c =
     let done = c.type_held-held.ensures.calling c.args.class c.args.name named in
     rw (c.push_reserved.ensures.items, c.type_held-held.ensures.answers, c.type_held-held.ensures.names, c.type_held-held.ensures.compared)
     (calling_as (given_of g.D.Desk.fixed s) (given_of g.D.Desk.fixed n) _ _ _ _ _ c.type_held-held.ensures.same (subst (λ (l : List Answer). IsCalling s.prog.now (g.D.Desk.fixed s.desk.now) s.q.0 (g.N.Names.known c.key.new.self) (g.N.Names.asked c.key.new.self) (g.D.Desk.front n.desk.now) s.key s.own n.held.now.items l) (append_assoc s.compared.now.items s.answers.now.items (a ∷ [])) done))
-
-pub returns-then-name-names-clause-asks : goal.returns-then-name-names-clause-asks
-returns-then-name-names-clause-asks g c = asking_itself _ _ _
 
 pub returns-then-is_err-clause-asks : goal.returns-then-is_err-clause-asks
 returns-then-is_err-clause-asks g c = rw (c.make_room.ensures.front, c.make_room.ensures.answers) (asking_names _ _ _ _ _ _ _)
