@@ -40,7 +40,7 @@ module _ (g : Given) (known asked : List Name) (new : List Entry) (held : List K
           let c = h.0 low in
           let same : IsCopy p.kept.derivation c.0 = subst (λ (z : Derivation). IsCopy z c.0) (sym p.derivation) c.1 in
           let f = resting_found g known asked new held answers d r p.kept p.key_is p.changes p.counts p.derivation c.0 same in
-          record { kept = p.kept; at = put_there; copy = c.0; same = same; last = c.2; declared = f.0; uses = f.1 }
+          record { kept = p.kept; at = put_there; key = ap (λ (k : KeyId). k.0) p.key_is; copy = c.0; same = same; last = c.2; declared = f.0; uses = f.1 }
 
 -- what holds in any case holds of what went well
 pub when_ok : {T E A : Type 0} (r : Result T E) → A → OnOk r A

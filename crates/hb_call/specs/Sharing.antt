@@ -47,10 +47,11 @@ abbrev pub FoundUses : Table → List Name → List Stand → List Used → Type
 FoundUses t names hs [] = Unit {0}
 FoundUses t names hs (u ∷ uses) = ((k : ℕ) × (place names (name_of t (key_of u)) ≡ Some k) × Found hs k u.site) × FoundUses t names hs uses
 
--- A copy of the derivation that is kept for the key comes last. Its sites are those that the Holds that stand found.
+-- A copy of the derivation that is kept for the key, and is of its method, comes last. Its sites are those that the Holds that stand found.
 pub record CollectsOne (t : Table) (names : List Name) (hs : List Stand) (cache : List (Option Kept)) (k : ℕ) (old : List Derivation) (new : Option (List Derivation)) : Type 0 where
   pub kept : Kept
   pub at : kept_at cache k ≡ Some kept
+  pub key : kept.key.0 ≡ k
   pub copy : Derivation
   pub same : IsCopy kept.derivation copy
   pub last : new ≡ Some (old ++ copy ∷ [])

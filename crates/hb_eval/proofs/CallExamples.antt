@@ -44,8 +44,8 @@ program = record {
 run : (steps : ℕ) → List Act → Forest → Option Run
 run steps journal items = run_of (ev program ((0, codes "f") ∷ []) (call_in program ((0, codes "f") ∷ []) 4096) (TBlock 99 items) (start steps journal))
 
-stopped : Stop → ℕ → List (ℕ × Act) → Option Run
-stopped e id acts = Some (record { outcome = outcome.Stopped e (record { 0 = id }); output = []; acts = acts })
+stopped : Stop → ℕ → (begun : ℕ) → List (ℕ × Act) → Option Run
+stopped e id begun acts = Some (record { outcome = outcome.Stopped e (record { 0 = id }); output = []; acts = acts; begun = begun })
 
 one : Tree → Forest
 one e = Trees e NoTree
@@ -71,28 +71,28 @@ entered = verdict.Enter by.Fresh
 
 -- a body gives its last item's value, and its call holds its key until then
 gives : run 100 (hold 1 ∷ call 1 1 entered ∷ free 1 ∷ []) (one asks)
-    ≡ Some (record { outcome = outcome.Done (value.Int (pos 7)); output = []; acts = (3, hold 1) ∷ (3, call 1 1 entered) ∷ (4, free 1) ∷ [] })
+    ≡ Some (record { outcome = outcome.Done (value.Int (pos 7)); output = []; acts = (3, hold 1) ∷ (3, call 1 1 entered) ∷ (4, free 1) ∷ []; begun = 4 })
 unfolding run one program at_place asks hold free call kinds entered call_in then_do begin tree_at tree_down
 gives = refl
 
 -- a body sees no variable of its caller, and its stop passes the call's Frees
 sees : run 100 (hold 1 ∷ call 1 0 entered ∷ free 1 ∷ []) (Trees (TAssign 21 2 (TInt 20 (pos 1))) (one asks))
-    ≡ stopped stop.Unbound 1 ((5, hold 1) ∷ (5, call 1 0 entered) ∷ (8, free 1) ∷ [])
+    ≡ stopped stop.Unbound 1 8 ((5, hold 1) ∷ (5, call 1 0 entered) ∷ (8, free 1) ∷ [])
 unfolding run stopped one program at_place asks hold free call kinds entered call_in then_do begin tree_at tree_down
 sees = refl
 
 -- a call that may not run gives its key back at once
 refuses : run 100 (hold 1 ∷ call 1 1 verdict.BadArgs ∷ free 1 ∷ []) (one asks)
-    ≡ stopped stop.BadArgs 12 ((3, hold 1) ∷ (3, call 1 1 verdict.BadArgs) ∷ (3, free 1) ∷ [])
+    ≡ stopped stop.BadArgs 12 3 ((3, hold 1) ∷ (3, call 1 1 verdict.BadArgs) ∷ (3, free 1) ∷ [])
 unfolding run stopped one program at_place asks hold free call kinds call_in then_do begin tree_at tree_down
 refuses = refl
 
 -- a call that finds the list of names full gives back what it holds, and has no Call
-full : run 100 (hold 1 ∷ free 1 ∷ []) (one asks) ≡ stopped stop.Full 12 ((3, hold 1) ∷ (3, free 1) ∷ [])
+full : run 100 (hold 1 ∷ free 1 ∷ []) (one asks) ≡ stopped stop.Full 12 3 ((3, hold 1) ∷ (3, free 1) ∷ [])
 unfolding run stopped one program at_place asks hold free kinds call_in then_do begin tree_at tree_down
 full = refl
 
 -- nil has no methods
-nil_is_called : run 100 [] (one (TCall 12 (TNil 10) 0 NoTree)) ≡ stopped stop.NilValue 12 []
+nil_is_called : run 100 [] (one (TCall 12 (TNil 10) 0 NoTree)) ≡ stopped stop.NilValue 12 2 []
 unfolding run stopped one program at_place call_in then_do begin tree_at tree_down
 nil_is_called = refl

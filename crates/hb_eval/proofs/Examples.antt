@@ -38,8 +38,8 @@ no_calls id r m args s = Lost
 run : List Name → (steps : ℕ) → List Act → Forest → Option Run
 run names steps journal items = run_of (ev program names no_calls (TBlock 99 items) (start steps journal))
 
-stopped : Stop → ℕ → List (ℕ × Act) → Option Run
-stopped e id acts = Some (record { outcome = outcome.Stopped e (record { 0 = id }); output = []; acts = acts })
+stopped : Stop → ℕ → (begun : ℕ) → List (ℕ × Act) → Option Run
+stopped e id begun acts = Some (record { outcome = outcome.Stopped e (record { 0 = id }); output = []; acts = acts; begun = begun })
 
 one : Tree → Forest
 one e = Trees e NoTree
@@ -47,33 +47,33 @@ one e = Trees e NoTree
 two : Tree → Tree → Forest
 two a b = Trees a (one b)
 
-printed : List ℕ → List (ℕ × Act) → Option Run
-printed output acts = Some (record { outcome = outcome.Done value.Nil; output = output; acts = acts })
+printed : List ℕ → (begun : ℕ) → List (ℕ × Act) → Option Run
+printed output begun acts = Some (record { outcome = outcome.Done value.Nil; output = output; acts = acts; begun = begun })
 
 -- a script without an item
-nothing : run [] 100 [] NoTree ≡ printed [] []
+nothing : run [] 100 [] NoTree ≡ printed [] 0 []
 unfolding run printed then_do begin
 nothing = refl
 
 -- `type A.("") : () -> Int`, and the same with "9x" and with "end"
-bad_name : run [] 100 [] (one (TDeclareComputed 1 0 (TText 0 0) 0 false)) ≡ stopped stop.BadName 1 []
+bad_name : run [] 100 [] (one (TDeclareComputed 1 0 (TText 0 0) 0 false)) ≡ stopped stop.BadName 1 2 []
 unfolding run stopped one program then_do begin
 bad_name = refl
 
-begins_with_a_digit : run [] 100 [] (one (TDeclareComputed 1 0 (TText 0 1) 0 false)) ≡ stopped stop.BadName 1 []
+begins_with_a_digit : run [] 100 [] (one (TDeclareComputed 1 0 (TText 0 1) 0 false)) ≡ stopped stop.BadName 1 2 []
 unfolding run stopped one program then_do begin
 begins_with_a_digit = refl
 
-a_keyword : run [] 100 [] (one (TDeclareComputed 1 0 (TText 0 2) 0 false)) ≡ stopped stop.BadName 1 []
+a_keyword : run [] 100 [] (one (TDeclareComputed 1 0 (TText 0 2) 0 false)) ≡ stopped stop.BadName 1 2 []
 unfolding run stopped one program keywords then_do begin
 a_keyword = refl
 
 -- a computed name that is nil, or a number
-nil_for_a_name : run [] 100 [] (one (TDeclareComputed 1 0 (TNil 0) 0 false)) ≡ stopped stop.NilValue 1 []
+nil_for_a_name : run [] 100 [] (one (TDeclareComputed 1 0 (TNil 0) 0 false)) ≡ stopped stop.NilValue 1 2 []
 unfolding run stopped one then_do begin
 nil_for_a_name = refl
 
-number_for_a_name : run [] 100 [] (one (TDefComputed 1 0 (TInt 0 (pos 1)) 0 (TBlock 2 NoTree))) ≡ stopped stop.BadOperand 1 []
+number_for_a_name : run [] 100 [] (one (TDefComputed 1 0 (TInt 0 (pos 1)) 0 (TBlock 2 NoTree))) ≡ stopped stop.BadOperand 1 2 []
 unfolding run stopped one then_do begin
 number_for_a_name = refl
 
@@ -87,7 +87,7 @@ define key site = act.Define (record { 0 = key }) (record { 0 = site })
 accessor : Tree
 accessor = TDefComputed 8 0 (TBinary 5 op.Concat (TText 2 3) (TToStr 4 (TTrue 3))) 0 (TBlock 7 (one (TInt 6 (pos 7))))
 
-accessor_made : run ((0, codes "get_true") ∷ []) 100 (define 0 0 ∷ []) (one accessor) ≡ printed [] ((5, define 0 0) ∷ [])
+accessor_made : run ((0, codes "get_true") ∷ []) 100 (define 0 0 ∷ []) (one accessor) ≡ printed [] 5 ((5, define 0 0) ∷ [])
 unfolding run printed one program keywords accessor define then_do begin reads
 accessor_made = refl
 
@@ -103,7 +103,7 @@ counting = Trees
     (TAssign 18 2 (TBinary 17 op.Add (TVar 15 2) (TInt 16 (pos 1)))))))
     (TVar 21 2))
 
-counted : run [] 30 [] counting ≡ Some (record { outcome = outcome.Done (value.Int (pos 3)); output = []; acts = [] })
+counted : run [] 30 [] counting ≡ Some (record { outcome = outcome.Done (value.Int (pos 3)); output = []; acts = []; begun = 21 })
 unfolding run one two counting then_do begin turns loop
 counted = refl
 
@@ -117,7 +117,7 @@ unfolding run one program define then_do begin reads
 other_site = refl
 
 -- a 1,025th name
-full : run (replicate 1024 (0, codes "m0")) 100 [] (one (TDef 1 0 0 0 (TBlock 0 NoTree))) ≡ stopped stop.Full 1 []
+full : run (replicate 1024 (0, codes "m0")) 100 [] (one (TDef 1 0 0 0 (TBlock 0 NoTree))) ≡ stopped stop.Full 1 1 []
 unfolding run stopped one program then_do begin reads
 full = refl
 
@@ -129,21 +129,21 @@ busy = act.Busy (record { 0 = 0 }) 1
 
 -- a second `type` where a type may change once
 worn_type : run ((0, codes "g") ∷ []) 100 (retype 0 0 ∷ worn ∷ []) (two (TDeclare 1 0 0 0 false) (TDeclare 2 0 0 1 false))
-    ≡ stopped stop.Worn 2 ((1, retype 0 0) ∷ (2, worn) ∷ [])
+    ≡ stopped stop.Worn 2 2 ((1, retype 0 0) ∷ (2, worn) ∷ [])
 unfolding run stopped one two program retype worn then_do begin reads
 worn_type = refl
 
 -- `print type? A.g : () -> Int`, where a call holds the method, and where none does
-busy_type : run ((0, codes "g") ∷ []) 100 (busy ∷ []) (one (TPrint 2 (TDeclare 1 0 0 0 true))) ≡ printed (codes "> false\n") ((2, busy) ∷ [])
+busy_type : run ((0, codes "g") ∷ []) 100 (busy ∷ []) (one (TPrint 2 (TDeclare 1 0 0 0 true))) ≡ printed (codes "> false\n") 2 ((2, busy) ∷ [])
 unfolding run printed one program busy then_do begin reads
 busy_type = refl
 
-changed_type : run ((0, codes "g") ∷ []) 100 (retype 0 0 ∷ []) (one (TPrint 2 (TDeclare 1 0 0 0 true))) ≡ printed (codes "> true\n") ((2, retype 0 0) ∷ [])
+changed_type : run ((0, codes "g") ∷ []) 100 (retype 0 0 ∷ []) (one (TPrint 2 (TDeclare 1 0 0 0 true))) ≡ printed (codes "> true\n") 2 ((2, retype 0 0) ∷ [])
 unfolding run printed one program retype then_do begin reads
 changed_type = refl
 
 -- `print A.new`
-an_object : run [] 100 [] (one (TPrint 2 (TNew 1 0))) ≡ printed (codes "> #<A>\n") []
+an_object : run [] 100 [] (one (TPrint 2 (TNew 1 0))) ≡ printed (codes "> #<A>\n") 2 []
 unfolding run printed one program then_do begin
 an_object = refl
 
@@ -151,21 +151,21 @@ escaped : print_line (codes "a\\b\n\tc") ≡ codes "> a\\\\b\\n\\tc\n"
 escaped = refl
 
 -- `1 + 2` with two steps stops at its right operand, and with three it does not
-no_step_left : run [] 2 [] (one (TBinary 3 op.Add (TInt 1 (pos 1)) (TInt 2 (pos 2)))) ≡ stopped stop.Steps 2 []
+no_step_left : run [] 2 [] (one (TBinary 3 op.Add (TInt 1 (pos 1)) (TInt 2 (pos 2)))) ≡ stopped stop.Steps 2 3 []
 unfolding run stopped one then_do begin
 no_step_left = refl
 
 steps_enough : run [] 3 [] (one (TBinary 3 op.Add (TInt 1 (pos 1)) (TInt 2 (pos 2))))
-    ≡ Some (record { outcome = outcome.Done (value.Int (pos 3)); output = []; acts = [] })
+    ≡ Some (record { outcome = outcome.Done (value.Int (pos 3)); output = []; acts = []; begun = 3 })
 unfolding run one then_do begin
 steps_enough = refl
 
 -- at script level
-unbound : run [] 100 [] (one (TVar 1 0)) ≡ stopped stop.Unbound 1 []
+unbound : run [] 100 [] (one (TVar 1 0)) ≡ stopped stop.Unbound 1 1 []
 unfolding run stopped one then_do begin
 unbound = refl
 
-no_self : run [] 100 [] (one (TSelf 1)) ≡ stopped stop.NoSelf 1 []
+no_self : run [] 100 [] (one (TSelf 1)) ≡ stopped stop.NoSelf 1 1 []
 unfolding run stopped one then_do begin
 no_self = refl
 

@@ -12,7 +12,7 @@ use Rattle.hb_deriv.specs.declared.raw.Derivation.{Derivation}
 use Rattle.hb_deriv.specs.declared.raw.Used.{Used}
 use Rattle.hb_deriv.specs.Derivation.{Content, key_of}
 use Rattle.hb_deriv.specs.Programs.{IsFor}
-use Rattle.hb_names.specs.Names.{Name}
+use Rattle.hb_names.specs.Names.{Name, place}
 use Rattle.hb_names.proofs.NameLemmas.{place-longer}
 use Rattle.hb_tables.specs.declared.entry.Entry.{Entry}
 use Rattle.hb_tables.specs.declared.entry.Act.{Act}
@@ -70,7 +70,24 @@ module _ (t : Table) (names known : List Name) (longer : IsPrefix names known) w
   takes_longer : (hs : List Stand) (k : ℕ) (site : BodySite) (old new : Option (List Derivation)) → TakesOne t names hs k site old new → TakesOne t known hs k site old new
   takes_longer hs k site None new h = h
   takes_longer hs k site (Some old) new h =
-      (λ few. let one = h.0 few in let m = one.made in record { derivation = one.derivation; made = record { good = m.good; body = m.body; declared = m.declared; uses = uses_longer hs one.derivation.uses.items m.uses }; last = one.last }, h.1)
+      (λ few. takes_last_longer (h.0 few), h.1)
+    where
+      takes_last_longer : TakesLast t names hs k site old new → TakesLast t known hs k site old new
+      takes_last_longer one =
+          let m = one.made in
+          record {
+            derivation = one.derivation;
+            made = record {
+              good = m.good;
+              name = m.name;
+              named = place-longer names known m.name k longer m.named;
+              class = m.class;
+              body = m.body;
+              declared = m.declared;
+              uses = uses_longer hs one.derivation.uses.items m.uses;
+            };
+            last = one.last;
+          }
 
   call_longer : (hs : List Stand) (k : ℕ) (v : Verdict) (site : Option BodySite) (old new : Option (List Derivation)) → GathersCall t names hs k v site old new → GathersCall t known hs k v site old new
   call_longer hs k (verdict.Enter by.Fresh) (Some site) old new h = takes_longer hs k site old new h
@@ -204,10 +221,14 @@ takes_last t names asked c before now cache q key site args (Some old) new own i
     one : CollectsOne t names (stands c q.0 now) cache key.0 old new → TakesLast t names (standing q.0 (acts c before)) key.0 site old new
     one x =
         let held : stands c q.0 now ≡ standing q.0 (acts c before) = ap (standing q.0) is ∙ standing_stays q.0 (acts c before) (Call q key (Some site) args (verdict.Enter by.Fresh)) refl in
+        let kept = own.each key.0 x.kept x.at in
         record {
           derivation = x.copy;
           made = record {
-            good = subst (IsFor t) (sym x.same) (own.each key.0 x.kept x.at).good;
+            good = subst (IsFor t) (sym x.same) kept.good;
+            name = kept.name;
+            named = subst (λ (k : ℕ). place names kept.name ≡ Some k) x.key kept.named;
+            class = kept.class ∙ sym (ap (λ (d : Content). d.class) x.same);
             body = ap (λ (d : Content). site_numbered d.body) x.same ∙ kept_body t names asked c before now cache q key site args x.kept own is x.at;
             declared = subst (λ (hs : List Stand). Found hs key.0 x.copy.declared) held x.declared;
             uses = subst (λ (hs : List Stand). FoundUses t names hs x.copy.uses.items) held x.uses;

@@ -30,11 +30,11 @@ use Rattle.hb_eval.specs.declared.machine.Machine.{Machine}
 use Rattle.hb_eval.specs.State.{Bindings, St, Answer, tagged, then_do}
 use Rattle.hb_eval.specs.Meaning.{Calls, ev, ev_items}
 use Rattle.hb_eval.specs.Calls.{call_in}
-use Rattle.hb_eval.specs.Runs.{Run, run_of, script_run, start, is_call, is_entered}
+use Rattle.hb_eval.specs.Runs.{Run, run_of, start, is_call, is_entered}
 use Rattle.hb_eval.specs.Told.{told}
 use Rattle.hb_eval.specs.Machine.{trees_from, items_in}
 use Rattle.hb_eval.specs.Turns.{Tallies, Reads, stands_at}
-use Rattle.hb_eval.specs.Machines.{Counts, HasEnded, IsLast, StandsFor, of_machine, outcome_of}
+use Rattle.hb_eval.specs.Machines.{Counts, Finishes, HasEnded, IsLast, StandsFor, of_machine, outcome_of}
 use Rattle.hb_eval.proofs.AdvanceLemmas.{last_none}
 use Rattle.hb_eval.proofs.TurnLemmas.{prefix_on}
 
@@ -108,27 +108,31 @@ new_stands t known block caller e cache steps ops vars out conts frames no_vars 
 }
 
 ended_run : (t : Table) (names : List Name) (hand : Hand) (ks : List Cont) (frames : List Framed) (x : State) (done : List (ℕ × Act)) → IsLast hand ks
-    → run_of (stands_at t names [] frames hand x done []) ≡ Some (record { outcome = outcome_of hand x.stop x.at x.acc; output = x.output.items; acts = done })
+    → run_of (stands_at t names [] frames hand x done []) ≡ Some (record { outcome = outcome_of hand x.stop x.at x.acc; output = x.output.items; acts = done; begun = x.begun })
 ended_run t names hands.Begins ks frames x done h = absurd h
 ended_run t names hands.Gives ks frames x done h = refl
 ended_run t names hands.Stops ks frames x done h = refl
 
 -- what the run of an ended machine came to
 pub finished : (t : Table) (known names : List Name) (block steps : ℕ) (done : List (ℕ × Act)) (m : Machine) → HasEnded m → StandsFor t known block steps done m → IsPrefix known names → length names ≤ NAMES_MAX
-    → (run : Run) × (script_run t names (call_in t names 4096) block steps (map (λ e. e.1) done) ≡ Some run)
-    × (record { caller = m.caller.0; outcome = outcome_of m.hand m.state.stop m.state.at m.state.acc; output = m.state.output.items; calls = m.state.decided; own = m.state.own; shared = 0; fresh = m.state.fresh } ≡ told m.caller.0 run)
+    → Finishes t names block steps done m (record { caller = m.caller.0; outcome = outcome_of m.hand m.state.stop m.state.at m.state.acc; output = m.state.output.items; calls = m.state.decided; own = m.state.own; shared = 0; fresh = m.state.fresh })
 finished t known names block steps done m ended s p few =
     let x = m.state in
     let none = last_none m.hand m.conts.items ended in
     let first : ℕ × Act → Act = λ e. e.1 in
-    let run : Run = record { outcome = outcome_of m.hand x.stop x.at x.acc; output = x.output.items; acts = done } in
-    let is : script_run t names (call_in t names 4096) block steps (map first done) ≡ Some run =
-    ap (λ l. run_of (ev t names (call_in t names 4096) (tree_at t block) (start steps l))) (sym (append-nil (map first done)))
-    ∙ ap run_of (s.same names p few [])
-    ∙ ap (λ l. run_of (stands_at t names (reverse l) m.frames.items m.hand x done [])) none
-    ∙ ended_run t names m.hand m.conts.items m.frames.items x done ended in
-    (run, is, go x.decided x.own x.fresh s.counts.decided s.counts.own s.counts.fresh)
+    let run : Run = record { outcome = outcome_of m.hand x.stop x.at x.acc; output = x.output.items; acts = done; begun = x.begun } in
+    record {
+      run = run;
+      reads = ap (λ l. run_of (ev t names (call_in t names 4096) (tree_at t block) (start steps l))) (sym (append-nil (map first done)))
+          ∙ ap run_of (s.same names p few [])
+          ∙ ap (λ l. run_of (stands_at t names (reverse l) m.frames.items m.hand x done [])) none
+          ∙ ended_run t names m.hand m.conts.items m.frames.items x done ended;
+      tells = go x.decided x.own x.fresh s.counts.decided s.counts.own s.counts.fresh;
+      acts = refl;
+      begun = refl;
+    }
   where
     go : (decided own fresh : ℕ) → decided ≡ count_by (λ (e : ℕ × Act). is_call e.1) done → own ≡ count_by (λ (e : ℕ × Act). is_entered by.Own e.1) done → fresh ≡ count_by (λ (e : ℕ × Act). is_entered by.Fresh e.1) done
-        → record { caller = m.caller.0; outcome = outcome_of m.hand m.state.stop m.state.at m.state.acc; output = m.state.output.items; calls = decided; own = own; shared = 0; fresh = fresh } ≡ told m.caller.0 (record { outcome = outcome_of m.hand m.state.stop m.state.at m.state.acc; output = m.state.output.items; acts = done })
+        → record { caller = m.caller.0; outcome = outcome_of m.hand m.state.stop m.state.at m.state.acc; output = m.state.output.items; calls = decided; own = own; shared = 0; fresh = fresh }
+        ≡ told m.caller.0 (record { outcome = outcome_of m.hand m.state.stop m.state.at m.state.acc; output = m.state.output.items; acts = done; begun = m.state.begun })
     go decided own fresh d o f = rw (d, o, f, s.counts.shared) refl

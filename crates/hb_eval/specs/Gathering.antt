@@ -5,7 +5,7 @@ use Rattle.hb_tree.specs.Table.{Table}
 use Rattle.hb_deriv.specs.declared.raw.Derivation.{Derivation}
 use Rattle.hb_deriv.specs.Derivation.{content_of}
 use Rattle.hb_deriv.specs.Programs.{IsFor}
-use Rattle.hb_names.specs.Names.{Name}
+use Rattle.hb_names.specs.Names.{Name, place}
 use Rattle.hb_tables.specs.declared.entry.Entry.{Entry}
 use Rattle.hb_tables.specs.declared.entry.Act.{Act}
 use Rattle.hb_tables.specs.declared.entry.Act.TheVariants.{Call}
@@ -18,9 +18,12 @@ use Rattle.hb_call.specs.declared.share.Share.{Share}
 use Rattle.hb_call.specs.declared.share.TheConstants.{COLLECTED_MAX}
 use Rattle.hb_call.specs.Sharing.{Found, FoundUses, collected}
 
--- The derivation is for the program, and of the body of this site. Its sites are those that the Holds found which stand for a call of the key.
+-- The derivation is for the program, of the class of the key's name and of the body of this site. Its sites are those that the Holds found which stand for a call of the key.
 pub record IsMadeBy (t : Table) (names : List Name) (held : List Stand) (k : ℕ) (site : BodySite) (d : Derivation) : Type 0 where
   pub good : IsFor t (content_of d)
+  pub name : Name
+  pub named : place names name ≡ Some k
+  pub class : name.0 ≡ d.class.0
   pub body : d.body ≡ site
   pub declared : Found held k d.declared
   pub uses : FoundUses t names held d.uses.items

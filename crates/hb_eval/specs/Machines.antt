@@ -1,5 +1,5 @@
 -- A machine between two beginnings: for what it stands, and what its stacks have.
-use Rattle.std.specs.Prelude.{◌≡◌, ℕ, ◌+◌, ◌^◌, ◌<◌, ◌≤◌, ◌⊎◌, List, [], ◌∷◌, ◌++◌, length, map, reverse, count_by}
+use Rattle.std.specs.Prelude.{◌≡◌, ℕ, ◌+◌, ◌^◌, ◌<◌, ◌≤◌, ◌⊎◌, List, [], ◌∷◌, ◌++◌, length, map, reverse, count_by, Some}
 use Rattle.std.specs.List.{AllByRecursion}
 use mathlib.Core.List.{IsPrefix}
 use Rattle.hb_tree.specs.Table.{Table}
@@ -27,7 +27,8 @@ use Rattle.hb_eval.specs.declared.machine.Turn.TheVariants as turn
 use Rattle.hb_eval.specs.State.{Answer}
 use Rattle.hb_eval.specs.Meaning.{ev}
 use Rattle.hb_eval.specs.Calls.{call_in}
-use Rattle.hb_eval.specs.Runs.{start, is_call, is_entered}
+use Rattle.hb_eval.specs.Runs.{Run, script_run, start, is_call, is_entered}
+use Rattle.hb_eval.specs.Told.{Told, told}
 use Rattle.hb_eval.specs.Machine.{need, frames_in}
 use Rattle.hb_eval.specs.Steps.{IsFine, IsFineStep, IsFed, Steady, weigh_one}
 use Rattle.hb_eval.specs.Stacks.{IsBased, AllKnown, calls_in}
@@ -76,6 +77,14 @@ pub record StandsFor (t : Table) (known : List Name) (block steps : ℕ) (done :
   pub same : (names : List Name) → IsPrefix known names → length names ≤ NAMES_MAX → (journal : List Act)
       → ev t names (call_in t names 4096) (tree_at t block) (start steps (map (λ e. e.1) done ++ journal)) ≡ answer t names m done journal
   pub counts : Counts m.state done
+
+-- This is told of the run of a block with so many steps against these acts, which it reads to their end. So many expressions began in it as in the machine.
+pub record Finishes (t : Table) (names : List Name) (block steps : ℕ) (done : List (ℕ × Act)) (m : Machine) (r : Told) : Type 0 where
+  pub run : Run
+  pub reads : script_run t names (call_in t names 4096) block steps (map (λ e. e.1) done) ≡ Some run
+  pub tells : r ≡ told m.caller.0 run
+  pub acts : run.acts ≡ done
+  pub begun : run.begun ≡ m.state.begun
 
 -- there is a value or a stop, and nothing is left to do with it
 abbrev pub IsLast : Hand → List Cont → Type 0

@@ -27,14 +27,15 @@ start steps journal = record {
   journal = journal;
 }
 
--- how it ended, what it printed, and its acts, each with the number of beginnings
+-- how it ended, what it printed, its acts, each with the number of beginnings, and how many expressions began
 pub record Run : Type 0 where
   pub outcome : Outcome
   pub output : List ℕ
   pub acts : List (ℕ × Act)
+  pub begun : ℕ
 
 abbrev pub ended : Outcome → St → List Act → Option Run
-ended o s [] = Some (record { outcome = o; output = s.output; acts = s.read })
+ended o s [] = Some (record { outcome = o; output = s.output; acts = s.read; begun = s.begun })
 ended o s (e ∷ rest) = None
 
 -- there is a run where the journal is read to its end

@@ -1,6 +1,6 @@
 //! A machine: the run of a script between two of its beginnings.
 
-ghost use Rattle.std.specs.Prelude.{◌≡◌, ◌+◌, ◌<◌, ◌≤◌, ◌++◌, [], ℕ, List, length, map, IfOk, OnOk, OnErr, Some, true, false};
+ghost use Rattle.std.specs.Prelude.{◌≡◌, ◌+◌, ◌<◌, ◌≤◌, ◌++◌, [], ℕ, List, length, IfOk, OnOk, OnErr, true, false};
 ghost use mathlib.Core.List.{IsPrefix};
 ghost use Rattle.hb_tree.specs.Table.{Table};
 ghost use Rattle.hb_tree.specs.TreeAt.{IsBlockAt};
@@ -16,14 +16,12 @@ ghost use Rattle.hb_tables.specs.History.{IsLegal};
 ghost use Rattle.hb_eval.specs.declared.machine.Turn.TheVariants.{Ended};
 ghost use Rattle.hb_eval.specs.declared.state.Hand.TheVariants as hands;
 ghost use Rattle.hb_eval.specs.State.{tagged};
-ghost use Rattle.hb_eval.specs.Calls.{call_in};
-ghost use Rattle.hb_eval.specs.Runs.{Run, script_run};
-ghost use Rattle.hb_eval.specs.Told.{told, told_by};
+ghost use Rattle.hb_eval.specs.Told.{told_by};
 ghost use Rattle.hb_eval.specs.Gathering.{Shares};
 ghost use Rattle.hb_eval.specs.Holding.{Holding, frames_of};
 ghost use Rattle.hb_eval.specs.Staying.{Stays};
 ghost use Rattle.hb_eval.specs.Steps.{SameCalls};
-ghost use Rattle.hb_eval.specs.Machines.{Advances, Begins, Carries, HasBegun, HasEnded, IsAtRest, IsFineMachine, IsGoing, IsSettled, Opens, StandsFor, Turns, outcome_of, turn_of, turns_left};
+ghost use Rattle.hb_eval.specs.Machines.{Advances, Begins, Carries, Finishes, HasBegun, HasEnded, IsAtRest, IsFineMachine, IsGoing, IsSettled, Opens, StandsFor, Turns, outcome_of, turn_of, turns_left};
 
 use crate::begin::begin;
 use crate::blocks::items;
@@ -86,7 +84,7 @@ impl Machine {
         ensures fine { IfOk result (λ m. (t : Table) → IsBlockAt t block.0 → IsFineMachine t m) }
         ensures stands { IfOk result (λ m. (t : Table) (known : List Name) → IsBlockAt t block.0 → StandsFor t known block.0 steps [] m) }
         ensures going { IfOk result (λ m. IsGoing m) }
-        ensures fresh { IfOk result (λ m. (m.frames.items ≡ []) × (m.state.made ≡ 0) × (m.caller ≡ caller)) }
+        ensures fresh { IfOk result (λ m. (m.frames.items ≡ []) × (m.state.made ≡ 0) × (m.caller ≡ caller) × (m.state.begun ≡ 0)) }
         ensures own { IfOk result (λ m. (t : Table) (known asked : List Name) (log : List Entry) → acts caller.0 log ≡ [] → IsOwnCache t known asked caller.0 log m.state.cache) }
     {
         let mut conts = Vec::new(alloc);
@@ -192,11 +190,12 @@ impl Machine {
     // The stop passes all that was to be done.
     #[cold]
     #[inline(never)]
-    fn unwind<D: Desk>(&mut self, prog: &Program, desk: &mut D)
-        requires fine { IsFineMachine prog.now self.old }
+    fn unwind<D: Desk>(&mut self, desk: &mut D)
+        requires fine { (t : Table) × IsFineMachine t self.old }
         requires stops { self.old.hand ≡ hands.Stops }
         requires holding { Holding (D.fixed desk.old).caller (self.old.state.made + 1) (frames_of self.old.frames.items) (D.front desk.old) }
-        ensures unwinds { (known asked : List Name) → IsOwnCache prog.now known asked (D.fixed desk.old).caller (D.front desk.old) self.old.state.cache → Carries prog.now (D.fixed desk.old).caller known asked asked (D.front desk.old) (D.front desk.new) self.old self.new }
+        ensures unwinds { (t : Table) → IsFineMachine t self.old → (known asked : List Name) → IsOwnCache t known asked (D.fixed desk.old).caller (D.front desk.old) self.old.state.cache
+            → Carries t (D.fixed desk.old).caller known asked asked (D.front desk.old) (D.front desk.new) self.old self.new }
         ensures rest { IsAtRest self.new }
         ensures calls { SameCalls self.old.state self.new.state }
         ensures holding { Holding (D.fixed desk.old).caller (self.new.state.made + 1) (frames_of self.new.frames.items) (D.front desk.new) }
@@ -205,8 +204,6 @@ impl Machine {
         ensures fixed { D.fixed desk.new ≡ D.fixed desk.old }
         ensures caller { self.new.caller ≡ self.old.caller }
     {
-        // Its program says what each of these takes.
-        let _nodes = prog.nodes();
         'passing: while let Some(cont) = self.conts.pop() {
             pass(desk, cont, &mut self.state, &mut self.frames);
         }
@@ -214,11 +211,12 @@ impl Machine {
 
     // A stop passes all that was to be done, where there is one.
     #[inline(always)]
-    fn end_stop<D: Desk>(&mut self, prog: &Program, desk: &mut D)
-        requires fine { IsFineMachine prog.now self.old }
+    fn end_stop<D: Desk>(&mut self, desk: &mut D)
+        requires fine { (t : Table) × IsFineMachine t self.old }
         requires settled { IsSettled self.old }
         requires holding { Holding (D.fixed desk.old).caller (self.old.state.made + 1) (frames_of self.old.frames.items) (D.front desk.old) }
-        ensures unwinds { (known asked : List Name) → IsOwnCache prog.now known asked (D.fixed desk.old).caller (D.front desk.old) self.old.state.cache → Carries prog.now (D.fixed desk.old).caller known asked asked (D.front desk.old) (D.front desk.new) self.old self.new }
+        ensures unwinds { (t : Table) → IsFineMachine t self.old → (known asked : List Name) → IsOwnCache t known asked (D.fixed desk.old).caller (D.front desk.old) self.old.state.cache
+            → Carries t (D.fixed desk.old).caller known asked asked (D.front desk.old) (D.front desk.new) self.old self.new }
         ensures rest { IsAtRest self.new }
         ensures calls { SameCalls self.old.state self.new.state }
         ensures holding { Holding (D.fixed desk.old).caller (self.new.state.made + 1) (frames_of self.new.frames.items) (D.front desk.new) }
@@ -228,7 +226,7 @@ impl Machine {
         ensures caller { self.new.caller ≡ self.old.caller }
     {
         match self.hand {
-            Hand::Stops => self.unwind(prog, desk),
+            Hand::Stops => self.unwind(desk),
             _ => {}
         }
     }
@@ -255,7 +253,7 @@ impl Machine {
         ensures caller { self.new.caller ≡ self.old.caller }
     {
         self.steps(alloc, prog, desk, names, share)?;
-        self.end_stop(prog, desk);
+        self.end_stop(desk);
         Ok(())
     }
 
@@ -365,6 +363,7 @@ impl Machine {
         ensures advances { OnOk result (Advances prog.now (D.fixed desk.old).caller (N.known names.new) (N.asked names.old) (N.asked names.new) (D.front desk.old) (D.front desk.new) self.old self.new) }
         ensures turns { IfOk result (λ turn. Turns turn self.old self.new) }
         ensures begun { IfOk result (λ turn. HasBegun turn self.old self.new) }
+        ensures quiet { OnOk result (self.new.state.begun ≡ self.old.state.begun → D.front desk.new ≡ D.front desk.old) }
         ensures holding { Holding (D.fixed desk.old).caller (self.new.state.made + 1) (frames_of self.new.frames.items) (D.front desk.new) }
         ensures stays { Stays (D.fixed desk.old) (D.fixed desk.new) (D.front desk.old) (D.front desk.new) (N.known names.old) (N.known names.new) }
         ensures shares { OnOk result (Shares prog.now (N.known names.new) (D.fixed desk.old).caller (D.front desk.old) (D.front desk.new) share.old share.new) }
@@ -398,6 +397,7 @@ impl Machine {
             → (more : List Act) × (acts (D.fixed desk.old).caller (D.front desk.new) ≡ acts (D.fixed desk.old).caller (D.front desk.old) ++ more) × StandsFor prog.now (N.known names.new) block steps (done ++ tagged self.new.state.begun more) self.new) }
         ensures turn { IfOk result (λ turn. Turns turn self.old self.new) }
         ensures begun { IfOk result (λ turn. HasBegun turn self.old self.new) }
+        ensures quiet { OnOk result (self.new.state.begun ≡ self.old.state.begun → D.front desk.new ≡ D.front desk.old) }
         ensures holding { OnOk result (Holding (D.fixed desk.old).caller (self.new.state.made + 1) (frames_of self.new.frames.items) (D.front desk.new)) }
         ensures own { OnOk result (IsOwnCache prog.now (N.known names.new) (N.asked names.new) (D.fixed desk.old).caller (D.front desk.new) self.new.state.cache) }
         // Each call that entered on a fresh check gave its derivation to the share, while there was room.
@@ -422,8 +422,8 @@ impl Machine {
     /// What the run came to.
     pub fn finish(self) -> ScriptRun
         requires ended { HasEnded self }
-        ensures run { (t : Table) (known names : List Name) (block steps : ℕ) (done : List (ℕ × Act)) → IsFineMachine t self → StandsFor t known block steps done self → IsPrefix known names → length names ≤ NAMES_MAX
-            → (run : Run) × (script_run t names (call_in t names 4096) block steps (map (λ e. e.1) done) ≡ Some run) × (told_by result ≡ told self.caller.0 run) }
+        ensures run { (t : Table) (known names : List Name) (block steps : ℕ) (done : List (ℕ × Act)) → StandsFor t known block steps done self → IsPrefix known names → length names ≤ NAMES_MAX
+            → Finishes t names block steps done self (told_by result) }
     {
         let Machine {
             caller,

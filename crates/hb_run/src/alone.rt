@@ -1,24 +1,21 @@
 //! A program of one script, which runs alone.
 
-ghost use Rattle.std.specs.Prelude.{◌≡◌, ◌+◌, ◌≤◌, ℕ, List, [], ◌∷◌, None, Some, length, map, IfOk, OnOk};
+ghost use Rattle.std.specs.Prelude.{◌≡◌, ◌≤◌, List, [], ◌∷◌, None, Some, length, map, IfOk, OnOk};
 ghost use Rattle.hb_tree.specs.TreeAt.{IsBlockAt};
-ghost use Rattle.hb_names.specs.declared.names.TheConstants.{NAMES_MAX};
 ghost use Rattle.hb_names.specs.Names.{Name};
 ghost use Rattle.hb_tables.specs.declared.entry.Entry.{Entry};
 ghost use Rattle.hb_tables.specs.History.{IsLegal};
 ghost use Rattle.hb_tables.specs.Plain.{AreOwn};
 ghost use Rattle.hb_call.specs.OwnCache.{IsOwnCache};
-ghost use Rattle.hb_eval.specs.Holding.{Holding, frames_of};
 ghost use Rattle.hb_eval.specs.Machines.{HasEnded, IsFineMachine, IsGoing};
 ghost use Rattle.hb_eval.specs.Told.{told_by};
-ghost use Rattle.hb_run.specs.Going.{RanAlone, Went};
+ghost use Rattle.hb_run.specs.Going.{RanAlone};
 ghost use Rattle.hb_run.specs.History.{IsHistory, block_of};
 
-use hb_call::Share;
-use hb_eval::machine::{Machine, Turn};
+use crate::going::run_to_end;
+use hb_eval::machine::Machine;
 use hb_eval::script_run::ScriptRun;
-use hb_names::{Names, PlainNames};
-use hb_tables::desk::Desk;
+use hb_names::PlainNames;
 use hb_tables::entry::VERSIONS_MAX;
 use hb_tables::plain::PlainTables;
 use hb_tree::program::Program;
@@ -99,31 +96,4 @@ fn run_on(
     // All entries of the history are the script's own.
     tables.history();
     ended
-}
-
-// Runs a script to its end.
-fn run_to_end<D: Desk, N: Names>(
-    alloc: Global,
-    prog: &Program,
-    machine: &mut Machine,
-    desk: &mut D,
-    names: &mut N,
-) -> Result<(), AllocError>
-    requires fine { IsFineMachine prog.now machine.old }
-    requires going { IsGoing machine.old }
-    requires holding { Holding (D.fixed desk.old).caller (machine.old.state.made + 1) (frames_of machine.old.frames.items) (D.front desk.old) }
-    requires few { length (N.known names.old) ≤ NAMES_MAX }
-    requires cache { IsOwnCache prog.now (N.known names.old) (N.asked names.old) (D.fixed desk.old).caller (D.front desk.old) machine.old.state.cache }
-    ensures fine { OnOk result (IsFineMachine prog.now machine.new) }
-    ensures ended { OnOk result (HasEnded machine.new) }
-    ensures went { OnOk result (Went prog.now (D.fixed desk.old) (D.fixed desk.new) (N.known names.old) (N.known names.new) (N.asked names.old) (N.asked names.new) (D.front desk.old) (D.front desk.new) machine.old machine.new) }
-{
-    // No other script is there that could use its checks.
-    let mut share = Share::Off;
-    loop {
-        match machine.advance(alloc, prog, desk, names, &mut share)? {
-            Turn::More => {}
-            Turn::Ended => return Ok(()),
-        }
-    }
 }

@@ -2,6 +2,8 @@
 #![tactic(auto)]
 
 mod alone;
+mod going;
 pub mod laws;
 
 pub use alone::run_alone;
+pub use going::run_to_end;

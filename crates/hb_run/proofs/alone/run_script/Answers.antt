@@ -19,6 +19,6 @@ returns c =
         history-ran c.args.prog.now c.args.versions c.args.steps names c.run_on.new.tables.log c.args.block c.in_ok-machine.machine c.run_on.new.machine _
             c.requires.setup c.requires.scripts c.requires.first (subst (λ (n : ℕ). IsLegal n c.run_on.new.tables.log) c.in_ok-tables.ensures.1 came.legal) came.own came.ran
             (c.in_ok-machine.ensures.stands c.args.prog.now [] c.requires.block) (ap (λ (x : CallerId). x.0) (came.caller ∙ c.in_ok-machine.ensures.fresh.2))
-            (λ done stands. c.finish.ensures.run c.args.prog.now names names c.args.block.0 c.args.steps done came.fine stands (prefix_itself names) came.ran.few),
+            (λ done stands. c.finish.ensures.run c.args.prog.now names names c.args.block.0 c.args.steps done stands (prefix_itself names) came.ran.few),
       );
     }

@@ -1,4 +1,4 @@
-use Rattle.std.proofs.Common.{inr}
+use Rattle.std.proofs.Common.{◌+◌, arith, inr, refl}
 use Rattle.hb_eval.proofs.AdvanceLemmas.{begun_advances, none_begun, opened_advances, rest_last}
 use Rattle.hb_eval.proofs.GatheringLemmas.{shares_itself}
 use Rattle.hb_eval.proofs.StayingLemmas.{stays_itself}
@@ -12,6 +12,7 @@ returns-in_default g c =
     record {
       advances = opened_advances c.args.prog.now _ _ _ _ _ _ c.requires.own o;
       turns = rest_last new.hand new.conts.items c.in_default.not-Begins o.rest;
+      quiet = λ same. refl;
       begun = inr (o.steady.begun, none_begun old.hand new.hand old.state.begun old.conts.items c.requires.going o.first c.in_default.not-Begins);
       holding = rw (c.open.ensures.made, c.open.ensures.frames) c.requires.holding;
       stays = stays_itself _ _ _;
@@ -22,3 +23,6 @@ returns-in_default g c =
 
 pub returns-clause-advances : goal.returns-clause-advances
 returns-clause-advances g c = begun_advances c.args.prog.now _ _ _ _ _ _ _ _ _ c.in_ok-open.ensures.opens c.in_ok-begin_next.ensures.begins
+
+pub returns-clause-quiet : goal.returns-clause-quiet
+returns-clause-quiet g c same = absurd (let a = c.in_ok-open.ensures.opens.steady.begun in let b = c.in_ok-begin_next.ensures.begins.begun in omega (arith, a, b, same))

@@ -10,7 +10,7 @@ use Rattle.hb_eval.proofs.machine.Machine.settle.Goals as goal
 
 pub end_stop-requires : goal.end_stop-requires
 end_stop-requires g c = record {
-  fine = c.in_ok-steps.ensures.carries.fine;
+  fine = (c.args.prog.now, c.in_ok-steps.ensures.carries.fine);
   settled = c.in_ok-steps.ensures.settled;
   holding = subst (λ (z : Fixed). Holding z.caller (c.steps.new.self.state.made + 1) (frames_of c.steps.new.self.frames.items) (g.D.Desk.front c.steps.new.desk)) (sym c.steps.ensures.stays.fixed) c.steps.ensures.holding;
 }
@@ -25,7 +25,7 @@ returns-clause-carries g c =
     let now = g.D.Desk.front c.end_stop.new.desk in
     let first = c.in_ok-steps.ensures.carries in
     let own = subst (λ (z : Fixed). IsOwnCache t known asked z.caller half c.steps.new.self.state.cache) (sym c.steps.ensures.stays.fixed) first.own in
-    let then = subst (λ (z : Fixed). Carries t z.caller known asked asked half now c.steps.new.self c.end_stop.new.self) c.steps.ensures.stays.fixed (c.end_stop.ensures.unwinds known asked own) in
+    let then = subst (λ (z : Fixed). Carries t z.caller known asked asked half now c.steps.new.self c.end_stop.new.self) c.steps.ensures.stays.fixed (c.end_stop.ensures.unwinds t first.fine known asked own) in
     carries_on t who known known _ asked asked _ half now c.args.self.now c.steps.new.self c.end_stop.new.self (prefix_itself known) first then
 
 pub returns-clause-holding : goal.returns-clause-holding
@@ -43,5 +43,5 @@ returns-clause-shares g c =
     let half = g.D.Desk.front c.steps.new.desk in
     let now = g.D.Desk.front c.end_stop.new.desk in
     let own = subst (λ (z : Fixed). IsOwnCache t known asked z.caller half c.steps.new.self.state.cache) (sym c.steps.ensures.stays.fixed) c.in_ok-steps.ensures.carries.own in
-    let then = subst (λ (z : Fixed). Carries t z.caller known asked asked half now c.steps.new.self c.end_stop.new.self) c.steps.ensures.stays.fixed (c.end_stop.ensures.unwinds known asked own) in
+    let then = subst (λ (z : Fixed). Carries t z.caller known asked asked half now c.steps.new.self c.end_stop.new.self) c.steps.ensures.stays.fixed (c.end_stop.ensures.unwinds t c.in_ok-steps.ensures.carries.fine known asked own) in
     shares_on t known known who _ half now _ _ _ (prefix_itself known) c.in_ok-steps.ensures.shares (shares_quiet t known known who half now c.steps.new.self.state c.end_stop.new.self.state _ _ c.steps.new.share c.steps.new.share then.reads c.end_stop.ensures.calls.fresh refl)

@@ -1,5 +1,6 @@
 use Rattle.std.proofs.Common.{◌≡◌, ◌+◌, List, length}
 use mathlib.Core.List.{IsPrefix}
+use Rattle.hb_tree.specs.Table.{Table}
 use Rattle.hb_names.specs.Names.{Name}
 use Rattle.hb_tables.specs.History.{IsLegal}
 use Rattle.hb_call.specs.OwnCache.{IsOwnCache}
@@ -11,9 +12,10 @@ use Rattle.hb_eval.proofs.machine.Machine.unwind.Given as goal
 
 abbrev pub invariant-passing : goal.invariant-passing
 invariant-passing g l = record {
-  fine : IsFineMachine l.prog l.self;
+  fine : (t : Table) → IsFineMachine t l.fn.self → IsFineMachine t l.self;
   stops : l.self.hand ≡ hands.Stops;
-  unwinds : (known asked : List Name) → IsOwnCache l.prog known asked (g.D.Desk.fixed l.fn.desk).caller (g.D.Desk.front l.fn.desk) l.fn.self.state.cache → Carries l.prog (g.D.Desk.fixed l.fn.desk).caller known asked asked (g.D.Desk.front l.fn.desk) (g.D.Desk.front l.desk) l.fn.self l.self;
+  unwinds : (t : Table) → IsFineMachine t l.fn.self → (known asked : List Name) → IsOwnCache t known asked (g.D.Desk.fixed l.fn.desk).caller (g.D.Desk.front l.fn.desk) l.fn.self.state.cache
+      → Carries t (g.D.Desk.fixed l.fn.desk).caller known asked asked (g.D.Desk.front l.fn.desk) (g.D.Desk.front l.desk) l.fn.self l.self;
   calls : SameCalls l.fn.self.state l.self.state;
   holding : Holding (g.D.Desk.fixed l.fn.desk).caller (l.self.state.made + 1) (frames_of l.self.frames.items) (g.D.Desk.front l.desk);
   kept : IsPrefix (g.D.Desk.front l.fn.desk) (g.D.Desk.front l.desk);
