@@ -1,5 +1,6 @@
 -- A call that met a newer definition, and begins again.
-use Rattle.std.proofs.Common.{◌≡◌, ◌++◌, List, sym, ◌∙◌, subst}
+use Rattle.std.proofs.Common.{◌≡◌, ◌++◌, ◌∷◌, [], Bool, true, false, List, refl, sym, ap, ◌∙◌, subst}
+use Rattle.std.proofs.lemmas.List.{append-nil}
 use Rattle.std.specs.Prelude.{◌<◌}
 use Rattle.hb_types.specs.declared.ids.KeyId.{KeyId}
 use Rattle.hb_tables.specs.declared.entry.Entry.{Entry}
@@ -8,8 +9,10 @@ use Rattle.hb_tables.specs.Answers.{Fixed, IsLookAt}
 use Rattle.hb_tables.specs.Frames.{acts}
 use Rattle.hb_tables.specs.History.{IsLegal, Learns}
 use Rattle.hb_call.specs.Alike.{alike_on, fits_since_on}
-use Rattle.hb_call.specs.Calling.{FitsSince, Given, Goes, HasLooked, IsAlike, IsLive, MayRetreat, Moment}
+use Rattle.hb_call.specs.Calling.{Begun, FitsSince, Given, Goes, HasLooked, IsAlike, IsLive, MayRetreat, Moment, StaysUnfit, fits_of}
 use Rattle.hb_call.specs.Held.{frees}
+use Rattle.hb_tables.proofs.DeskLemmas.{learns_acts}
+use Rattle.hb_call.proofs.BegunLemmas.{begun_same}
 use Rattle.hb_call.specs.Rules.{FitsRules}
 use Rattle.hb_call.proofs.GrowthLemmas.{each_learns}
 use Rattle.hb_call.proofs.RunsLemmas.{learns_live, looked_live, looked_newer, may_retreat}
@@ -50,3 +53,32 @@ module _ (g h : Given) (was mid : Moment) (new : List Entry) (look newer : Look)
         (fits_since_on first h start mid here (is ∙ ruled.same) went_here.goes.went
         (fits_since_on first g start was mid is ruled.goes.went before since)
         (each_learns (FitsRules h.t mid.known h.door.caller) h.door.caller mid.log new learns)) after
+
+-- ── where the type does not take the arguments ──
+
+-- what is read of a call goes on with it
+pub begun_goes : (g : Given) (was is : Moment) → Goes g was is → (fits_of g ≡ false → acts g.door.caller is.log ≡ acts g.door.caller was.log) → (start : List Entry) → Begun g start was.log → Begun g start is.log
+begun_goes g was is goes unfit start b = by (fits_of g) refl
+  where
+    by : (fits : Bool) → fits_of g ≡ fits → Begun g start is.log
+    by true e = goes.begun e start b
+    by false e = begun_same g start was.log is.log (unfit e) b
+
+-- the call first did nothing up to g, which was ruled as h
+pub unfit_ruled : (g h : Given) → g ≡ h → (first : Given) → first ≡ g → (start was mid : List Entry) (held : List KeyId) → (fits_of first ≡ false → acts first.door.caller was ≡ acts first.door.caller start) → StaysUnfit g was mid held → fits_of h ≡ false → acts h.door.caller mid ≡ acts h.door.caller start
+unfit_ruled g h same first is start was mid held before ruled unfit =
+    subst (λ (x : Given). fits_of x ≡ false → acts x.door.caller mid ≡ acts x.door.caller start) (is ∙ same)
+    (λ e. (subst (λ (x : Given). StaysUnfit x was mid held) (sym is) ruled e).0 ∙ before e) unfit
+
+-- and then it retreated, which frees nothing
+pub unfit_again : (g h : Given) (was mid : Moment) (new : List Entry) (ruled : IsAlike g h was mid) → (held : List KeyId) → StaysUnfit g was.log mid.log held → Learns h.door.caller mid.log new → (door : Fixed) → door ≡ h.door → (end : Moment)
+    → ((others : List KeyId) × (held ≡ h.key ∷ others) × (acts door.caller end.log ≡ acts door.caller new ++ frees h.q others)) → (first : Given) (start : Moment) → first ≡ g
+    → (fits_of first ≡ false → acts first.door.caller was.log ≡ acts first.door.caller start.log) → fits_of first ≡ false → acts first.door.caller end.log ≡ acts first.door.caller start.log
+unfit_again g h was mid new ruled held stays learns door same end freed first start is before unfit =
+    let all = is ∙ ruled.same in
+    let low : fits_of h ≡ false = subst (λ (x : Given). fits_of x ≡ false) all unfit in
+    let quiet = subst (λ (x : Given). StaysUnfit x was.log mid.log held) ruled.same stays low in
+    let none : freed.0 ≡ [] = let e : h.key ∷ freed.0 ≡ h.key ∷ [] = sym freed.1 ∙ quiet.1 in cc e in
+    let back : acts h.door.caller end.log ≡ acts h.door.caller new = subst (λ (d : Fixed). acts d.caller end.log ≡ acts d.caller new) same (freed.2 ∙ ap (λ ks. acts door.caller new ++ frees h.q ks) none ∙ append-nil (acts door.caller new)) in
+    let to : acts h.door.caller end.log ≡ acts h.door.caller was.log = back ∙ learns_acts h.door.caller mid.log new learns ∙ quiet.0 in
+    subst (λ (x : Given). acts x.door.caller end.log ≡ acts x.door.caller was.log) (sym all) to ∙ before unfit

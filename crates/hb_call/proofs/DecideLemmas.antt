@@ -11,7 +11,7 @@ use Rattle.hb_tables.specs.declared.entry.Verdict.{Verdict}
 use Rattle.hb_tables.specs.declared.entry.Act.TheVariants.{Call}
 use Rattle.hb_tables.specs.History.{spot, journal, entry, Adds, IsLegal}
 use Rattle.hb_tables.specs.Standing.{Stand}
-use Rattle.hb_tables.specs.Rows.{IsDecided, kinds_of}
+use Rattle.hb_tables.specs.Rows.{IsFilled, IsDecided, kinds_of}
 use Rattle.hb_tables.proofs.HistoryLemmas.{legal_prefix}
 use Rattle.hb_tables.proofs.DeskLemmas.{adds_apart}
 use Rattle.hb_call.specs.declared.answers.Answer.{Answer}
@@ -61,13 +61,13 @@ module _ (g : Given) (names asked : List Name) (log : List Entry) (held : List K
       (learned g.t g.door g.q names asked log g.key g.own held answers h here (between, refl, none) low).whole
 
   pub call_decided : IsRightWay g.door.caller g.key.0 (log ++ between) v → IsDecided g.t names (log ++ between) (g.door.caller, g.q.0) g.key.0 site (kinds_of g.args) v
-      → (first : List Entry) → ((start : List Entry) → Begun g.door.caller g.q g.key (kinds_of g.args) start first → Begun g.door.caller g.q g.key (kinds_of g.args) start log) → Decided g names first new v site
+      → (first : List Entry) → ((start : List Entry) → Begun g start first → Begun g start log) → Decided g names first new v site
   call_decided way row first begun = record {
     before = log ++ between;
     is = is;
     way = way;
     row = row;
-    reads = λ start b. call_ends g.door.caller g.q g.key site g.args v start log new (between, is, none) (begun start b);
+    reads = λ start b. call_ends g site v start log new (between, is, none) (begun start b);
   }
 
 -- a call that went on so far is decided with this entry
@@ -75,7 +75,7 @@ module _ (g h : Given) (same : g ≡ h) (was : Moment) (known asked : List Name)
   pub decided_went : Went g was (at known asked log) → IsLegal h.door.limit new → Went g was (at known asked new)
   decided_went went legal = went_on g was (at known asked log) (at known asked new) went (subst (λ (x : Given). Went x (at known asked log) (at known asked new)) (sym same) (went_call h known asked log new site v adds legal))
 
-  pub decided_grew : Grew g was (at known asked log) → IsDecided h.t known (log ++ adds.0) (h.door.caller, h.q.0) h.key.0 site (kinds_of h.args) v → IsWhole h.door.caller h.q.0 (log ++ adds.0) → IsRightWay h.door.caller h.key.0 (log ++ adds.0) v → Grew g was (at known asked new)
-  decided_grew grew row whole way =
-      let last : Grew g (at known asked log) (at known asked new) = subst (λ (x : Given). Grew x (at known asked log) (at known asked new)) (sym same) (grew_call h known asked log new site v adds row whole way) in
+  pub decided_grew : Grew g was (at known asked log) → IsFilled h.args → IsDecided h.t known (log ++ adds.0) (h.door.caller, h.q.0) h.key.0 site (kinds_of h.args) v → IsWhole h.door.caller h.q.0 (log ++ adds.0) → IsRightWay h.door.caller h.key.0 (log ++ adds.0) v → Grew g was (at known asked new)
+  decided_grew grew filled row whole way =
+      let last : Grew g (at known asked log) (at known asked new) = subst (λ (x : Given). Grew x (at known asked log) (at known asked new)) (sym same) (grew_call h known asked log new site v adds filled row whole way) in
       grown_on g.t g.door.caller known known was.asked asked asked was.log log new grew last (prefix_itself known)

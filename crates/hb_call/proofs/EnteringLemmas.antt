@@ -1,5 +1,5 @@
 -- A call that is entered or refused, from what the finish of its decision comes to.
-use Rattle.std.proofs.Common.{◌≡◌, ℕ, inr, List, [], ◌∷◌, ◌++◌, map, Bool, cond, eqb, eq-eqb, Some, None, refl, sym, ap, ◌∙◌, subst, append_assoc}
+use Rattle.std.proofs.Common.{true, ◌≡◌, ℕ, inr, List, [], ◌∷◌, ◌++◌, map, Bool, cond, eqb, eq-eqb, Some, None, refl, sym, ap, ◌∙◌, subst, append_assoc}
 use Rattle.std.specs.Prelude.{Option, Result, Ok, Err, slice_get, ◌&&◌}
 use Rattle.std.specs.Option.{unwrap_or}
 use Rattle.hb_tree.specs.Canon.{bytes_at}
@@ -7,7 +7,7 @@ use mathlib.Core.List.{IsPrefix}
 use Rattle.hb_types.specs.declared.ids.CallNo.{CallNo}
 use Rattle.hb_types.specs.declared.ids.KeyId.{KeyId}
 use Rattle.hb_types.specs.declared.ids.BodySite.{BodySite}
-use Rattle.hb_names.specs.Names.{IsFull, Name, place}
+use Rattle.hb_names.specs.Names.{Name, place}
 use Rattle.hb_tables.specs.declared.entry.Entry.{Entry}
 use Rattle.hb_tables.specs.declared.entry.Verdict.{Verdict}
 use Rattle.hb_tables.specs.declared.entry.Verdict.TheVariants as verdict
@@ -26,7 +26,8 @@ use Rattle.hb_call.specs.declared.ruling.Ended.{Ended}
 use Rattle.hb_call.specs.declared.ruling.Ended.TheVariants as ended
 use Rattle.hb_tables.specs.declared.entry.By.TheVariants as by
 use Rattle.hb_call.specs.Held.{HasCall, Holds, frees, stands}
-use Rattle.hb_call.specs.Calling.{Begun, Given, Grew, Moment, Went}
+use Rattle.hb_tree.specs.Table.{Table}
+use Rattle.hb_call.specs.Calling.{Begun, Given, Grew, Moment, Went, fits_of}
 use Rattle.hb_call.specs.Alike.{went_on}
 use Rattle.hb_call.specs.GrowthLaws.{grown_on, prefix_itself, with_rules}
 use Rattle.hb_call.proofs.StepLemmas.{at, went_frees}
@@ -66,28 +67,29 @@ freed_all q (h ∷ hs) (key ∷ keys) l e =
     let one = eq-eqb q.0 q.0 refl in let two = eq-eqb key.0 h.key head in
     ap (λ (b : Bool). cond (b && eqb key.0 h.key) (freed q.0 hs (frees q keys ++ l)) None) one ∙ ap (λ (b : Bool). cond b (freed q.0 hs (frees q keys ++ l)) None) two ∙ freed_all q hs keys l rest
 
--- the Frees of all that a call holds, its own key first, tell that it is Full
-full_read : (q : CallNo) (key : KeyId) (kinds : List Ty) (hs : List Stand) (others : List KeyId) (l : List Act) → map (λ (h : Stand). h.key) hs ≡ map (λ (k : KeyId). k.0) (key ∷ others) → decision q.0 key.0 kinds hs (frees q (key ∷ others) ++ l) ≡ FullAt l
+-- the Frees of all that a call holds, its own key first, tell that it is Full where its type takes the arguments
+full_read : (q : CallNo) (key : KeyId) (kinds : List Ty) (hs : List Stand) (others : List KeyId) (l : List Act) → map (λ (h : Stand). h.key) hs ≡ map (λ (k : KeyId). k.0) (key ∷ others) → decision true q.0 key.0 kinds hs (frees q (key ∷ others) ++ l) ≡ FullAt l
 full_read q key kinds hs others l e =
     let one = eq-eqb q.0 q.0 refl in let two = eq-eqb key.0 key.0 refl in let acts = frees q others ++ l in
-    ap (λ (b : Bool). cond b (cond (eqb key.0 key.0) (full_at (freed q.0 hs (Free q key ∷ acts))) (decision q.0 key.0 kinds (all_but key.0 hs) acts)) Lost) one
-    ∙ ap (λ (b : Bool). cond b (full_at (freed q.0 hs (Free q key ∷ acts))) (decision q.0 key.0 kinds (all_but key.0 hs) acts)) two
+    ap (λ (b : Bool). cond b (cond (eqb key.0 key.0) (full_at (freed q.0 hs (Free q key ∷ acts))) (decision true q.0 key.0 kinds (all_but key.0 hs) acts)) Lost) one
+    ∙ ap (λ (b : Bool). cond b (full_at (freed q.0 hs (Free q key ∷ acts))) (decision true q.0 key.0 kinds (all_but key.0 hs) acts)) two
     ∙ ap full_at (freed_all q hs (key ∷ others) l e)
 
-pub gave_up : (g h : Given) (names : List Name) (old mid new : List Entry) (held others : List KeyId) → g ≡ h → held ≡ h.key ∷ others → (name : Name) × IsFull names name → Holds h.door.caller h.q.0 held mid → acts h.door.caller new ≡ acts h.door.caller mid ++ frees h.q held
-    → ((kinds : List Ty) (start : List Entry) → Begun g.door.caller g.q g.key kinds start old → Begun g.door.caller g.q g.key kinds start mid) → GaveUp g names old new
+pub gave_up : (g h : Given) (names : List Name) (old mid new : List Entry) (held others : List KeyId) → g ≡ h → held ≡ h.key ∷ others → IsFullFor h names fail.Full → Holds h.door.caller h.q.0 held mid → acts h.door.caller new ≡ acts h.door.caller mid ++ frees h.q held
+    → (fits_of g ≡ true → (start : List Entry) → Begun g start old → Begun g start mid) → GaveUp g names old new
 gave_up g h names old mid new held others same first full holds back begun =
-    subst (λ (x : Given). ((kinds : List Ty) (start : List Entry) → Begun x.door.caller x.q x.key kinds start old → Begun x.door.caller x.q x.key kinds start mid) → GaveUp x names old new) (sym same) given begun
+    subst (λ (x : Given). (fits_of x ≡ true → (start : List Entry) → Begun x start old → Begun x start mid) → GaveUp x names old new) (sym same) given begun
   where
-    given : ((kinds : List Ty) (start : List Entry) → Begun h.door.caller h.q h.key kinds start old → Begun h.door.caller h.q h.key kinds start mid) → GaveUp h names old new
+    given : (fits_of h ≡ true → (start : List Entry) → Begun h start old → Begun h start mid) → GaveUp h names old new
     given on = record {
-      full = full;
-      reads = λ start b. let m = on (kinds_of h.args) start b in (
+      full = full.1;
+      reads = λ start b. let m = on full.0 start b in let hs = stands h.door.caller h.q.0 mid in (
         m.made ++ frees h.q held,
         back ∙ ap (λ w. w ++ frees h.q held) m.grows ∙ append_assoc (acts h.door.caller start) m.made (frees h.q held),
-        λ l. ap (call_of h.q.0 h.key.0 (kinds_of h.args)) (append_assoc m.made (frees h.q held) l) ∙ m.reads (frees h.q held ++ l)
-            ∙ ap (λ (ks : List KeyId). decision h.q.0 h.key.0 (kinds_of h.args) (stands h.door.caller h.q.0 mid) (frees h.q ks ++ l)) first
-            ∙ full_read h.q h.key (kinds_of h.args) (stands h.door.caller h.q.0 mid) others l (holds.keys ∙ ap (map (λ (k : KeyId). k.0)) first),
+        λ l. ap (call_of h.t h.q.0 h.key.0 (kinds_of h.args)) (append_assoc m.made (frees h.q held) l) ∙ m.reads (frees h.q held ++ l)
+            ∙ ap (λ (b : Bool). decision b h.q.0 h.key.0 (kinds_of h.args) hs (frees h.q held ++ l)) full.0
+            ∙ ap (λ (ks : List KeyId). decision true h.q.0 h.key.0 (kinds_of h.args) hs (frees h.q ks ++ l)) first
+            ∙ full_read h.q h.key (kinds_of h.args) hs others l (holds.keys ∙ ap (map (λ (k : KeyId). k.0)) first),
       );
       none = none_stand h.door.caller h.q held mid new holds back;
     }
@@ -132,12 +134,12 @@ pub none_left : (g h : Given) (mid new : List Entry) (held : List KeyId) → g �
 none_left g h mid new held same holds freed = ap (λ (x : Given). stands x.door.caller x.q.0 new) same ∙ none_stand h.door.caller h.q held mid new holds freed
 
 -- a call that was not decided
-pub stopped : (g h : Given) (names : List Name) (old mid new : List Entry) (held others : List KeyId) (cause : CallFail) → g ≡ h → held ≡ h.key ∷ others → IsFullFor names cause → Holds h.door.caller h.q.0 held mid → acts h.door.caller new ≡ acts h.door.caller mid ++ frees h.q held
-    → ((kinds : List Ty) (start : List Entry) → Begun g.door.caller g.q g.key kinds start old → Begun g.door.caller g.q g.key kinds start mid) → Finished g names old new (Err cause)
+pub stopped : (g h : Given) (names : List Name) (old mid new : List Entry) (held others : List KeyId) (cause : CallFail) → g ≡ h → held ≡ h.key ∷ others → IsFullFor h names cause → Holds h.door.caller h.q.0 held mid → acts h.door.caller new ≡ acts h.door.caller mid ++ frees h.q held
+    → (fits_of g ≡ true → (start : List Entry) → Begun g start old → Begun g start mid) → Finished g names old new (Err cause)
 stopped g h names old mid new held others fail.Full same first full holds back begun = gave_up g h names old mid new held others same first full holds back begun
 stopped g h names old mid new held others fail.NoMemory same first full holds back begun = none_left g h mid new held same holds back
 
-module _ (a : Asks) (g : Given) (program : g.t ≡ a.t) (door : g.door ≡ a.door) (q : g.q ≡ a.q) (class : g.class ≡ a.class) (args : g.args ≡ a.args) (names : List Name) (named : place names (a.class.0, a.bytes) ≡ Some g.key.0) (old first : List Entry) (begun : Begun g.door.caller g.q g.key (kinds_of g.args) old first) where
+module _ (a : Asks) (g : Given) (program : g.t ≡ a.t) (door : g.door ≡ a.door) (q : g.q ≡ a.q) (class : g.class ≡ a.class) (args : g.args ≡ a.args) (names : List Name) (named : place names (a.class.0, a.bytes) ≡ Some g.key.0) (old first : List Entry) (begun : Begun g old first) where
   decided_of : (mid : List Entry) (key : KeyId) (v : Verdict) (site : Option BodySite) (held : List KeyId) → key ≡ g.key → IsFinished g names first mid v site held → IsDecidedOf a names old mid key v site held
   decided_of mid key v site held is f = record {
     given = g;
@@ -178,7 +180,8 @@ module _ (a : Asks) (g : Given) (program : g.t ≡ a.t) (door : g.door ≡ a.doo
         full = h.full;
         made = r.0;
         grows = ap (λ (d : Fixed). acts d.caller new) (sym door) ∙ r.1 ∙ ap (λ (d : Fixed). acts d.caller old ++ r.0) door;
-        reads = λ l. ap (λ (p : CallNo). call_of p.0 g.key.0 (kinds_of a.args) (r.0 ++ l)) (sym q) ∙ ap (λ (x : ArgKinds). call_of g.q.0 g.key.0 (kinds_of x) (r.0 ++ l)) (sym args) ∙ r.2 l;
+        reads = λ l. ap (λ (p : CallNo). call_of a.t p.0 g.key.0 (kinds_of a.args) (r.0 ++ l)) (sym q) ∙ ap (λ (x : ArgKinds). call_of a.t g.q.0 g.key.0 (kinds_of x) (r.0 ++ l)) (sym args)
+            ∙ ap (λ (t : Table). call_of t g.q.0 g.key.0 (kinds_of g.args) (r.0 ++ l)) (sym program) ∙ r.2 l;
         none = none_of new h.none;
       })
   enters new (Err fail.NoMemory) h = none_of new h

@@ -15,6 +15,7 @@ use Rattle.hb_deriv.specs.Judge.{Key}
 use Rattle.hb_deriv.specs.Events.{SameAt}
 use Rattle.hb_deriv.specs.Derivation.{type_at}
 use Rattle.hb_deriv.specs.Programs.{sites_of}
+use Rattle.hb_deriv.proofs.LookLemmas.{looks_onward}
 use Rattle.hb_check.specs.declared.lookup.LookFail.{LookFail}
 use Rattle.hb_check.specs.declared.lookup.LookFail.TheVariants as look
 use Rattle.hb_check.specs.Asked.{key_asked}
@@ -27,8 +28,8 @@ use Rattle.hb_tables.specs.History.{spot, times, entry, IsLegal}
 use Rattle.hb_tables.specs.Frames.{acts, KeepsHold}
 use Rattle.hb_tables.specs.Standing.{count_of, standing}
 use Rattle.hb_tables.specs.Names.{name_of}
-use Rattle.hb_tables.specs.Rows.{HoldsName, body_at, declared_in, kinds_of, site_in, type_of_key, types_in}
-use Rattle.hb_tables.specs.Verdicts.{looks_of, takes}
+use Rattle.hb_tables.specs.Rows.{HoldsName, declared_in, kinds_of, site_in, type_of_key, types_in}
+use Rattle.hb_tables.specs.Verdicts.{looks_of, subject, takes}
 use Rattle.hb_tables.proofs.FrameLemmas.{acts_append, acts_cut, hold_keeps}
 use Rattle.hb_tables.proofs.DeskLemmas.{same_held}
 use Rattle.hb_tables.proofs.HistoryLemmas.{legal_prefix}
@@ -46,7 +47,7 @@ use Rattle.hb_call.specs.Calling.{Given, HasBody, IsCalling, IsRefusedRightly, M
 use Rattle.hb_call.specs.Entering.{IsRightlyFor, IsTold}
 use Rattle.hb_call.specs.Growth.{EachNew}
 use Rattle.hb_call.specs.Rules.{Began, FitsRules, GivesUp, IsFullRightly}
-use Rattle.hb_call.specs.GrowthLaws.{looks_of_on, prefix_more}
+use Rattle.hb_call.specs.GrowthLaws.{looks_by, prefix_more}
 use Rattle.hb_call.proofs.GrowthLemmas.{each_made, whole_same}
 use Rattle.hb_call.proofs.StayLemmas.{acts_rest}
 use Rattle.hb_call.proofs.DecidingLemmas.{agrees, found_in, held_in}
@@ -77,7 +78,7 @@ module _ (t : Table) (names : List Name) (limit c : ℕ) (q : CallNo) (key : Key
   full_later one h =
       let n = h.next in
       let own_one : times (c, q.0) (spot n.key.0 log).calls ≡ 1 = subst (λ (k : KeyId). times (c, q.0) (spot k.0 log).calls ≡ 1) (sym h.own) one in
-      let on = looks_of_on t (types_in t names log) (types_in t names (log ++ rest)) n.name.0 (body_at t n.site) (type_of_key t log n.key.0) n.kinds n.held n.others h.look n.looks (types_later n.held n.holds) in
+      let on = looks_onward (types_in t names log) (types_in t names (log ++ rest)) (subject t n.name.0 n.body n.declared) n.held n.others h.look n.order (types_later n.held n.holds) in
       let typed : type_of_key t (log ++ rest) n.key.0 ≡ type_of_key t log n.key.0 = ap (λ (o : Option TypeSite). type_at (sites_of t) (option_map (λ (s : TypeSite). s.0) o)) (type_later n.key.0 own_one) in
       record {
         look = h.look;
@@ -89,10 +90,13 @@ module _ (t : Table) (names : List Name) (limit c : ℕ) (q : CallNo) (key : Key
           named = n.named;
           site = n.site;
           had = record { at = n.had.at; from = n.had.from; to = prefix_more n.had.at log (log ++ rest) n.had.to (rest, refl); is = n.had.is };
-          kinds = n.kinds;
+          body = n.body;
+          defined = n.defined;
+          declared = n.declared;
+          typed = typed ∙ n.typed;
           held = n.held;
           others = on.0;
-          looks = ap (λ (m : Option MethodTy). looks_of t (types_in t names (log ++ rest)) n.name.0 (body_at t n.site) m n.kinds) typed ∙ on.1;
+          order = on.1;
           holds = λ p i. let o = n.holds p i in (o.0, o.1, same_held c q.0 o.0 log (log ++ rest) same ∙ o.2);
         };
         own = h.own;
@@ -153,6 +157,7 @@ module _ (g : Given) (is : Moment) (site : BodySite) (declared : TypeSite) (m : 
           let all = all_looks g.t g.class.0 site declared m kinds typed fits answers (refusal_of (Some r)) (Err look.Full) a (declared_in g.t is.known is.log) (agrees g.t is.known is.log (c, g.q.0) answers (true_back g.t is.known is.log (c, g.q.0) compared answers j.answered)) in
           let looks_are : looks_here g is.known is.log (Some site) ≡ ks ++ (r.class.0, r.name.0) ∷ all.0 = ap (λ (o : Option TypeSite). looks_of g.t (types_in g.t is.known is.log) g.class.0 (slice_get g.t.bodies site.0) (type_declared g.t o) (kinds_of g.args)) own ∙ ap (λ (l : List Ty). looks_of g.t (types_in g.t is.known is.log) g.class.0 (slice_get g.t.bodies site.0) (sites_of g.t declared.0) l) (sym same_kinds) ∙ all.1 ∙ append_assoc ks ((r.class.0, r.name.0) ∷ []) all.0 in
           let i = narrow_before g is.known is.asked is.log after compared answers j (Some site) (r.class.0, r.name.0) all.0 next looks_are (right (sym a.cause)).1 in
+          let looked_at = looks_by g.t (types_in g.t is.known is.log) g.class.0 (slice_get g.t.bodies site.0) (sites_of g.t declared.0) kinds ks all.0 (r.class.0, r.name.0) (all.1 ∙ append_assoc ks ((r.class.0, r.name.0) ∷ []) all.0) in
           let at_key : type_of_key g.t is.log g.key.0 ≡ sites_of g.t declared.0 = ap (λ (o : Option TypeSite). type_at (sites_of g.t) (option_map (λ (s : TypeSite). s.0) o)) (sym i.own_is.1 ∙ own) in
           record {
             look = (r.class.0, r.name.0);
@@ -164,10 +169,13 @@ module _ (g : Given) (is : Moment) (site : BodySite) (declared : TypeSite) (m : 
               named = named;
               site = Some site;
               had = body.had;
-              kinds = kinds;
+              body = looked_at.body;
+              defined = looked_at.defined;
+              declared = looked_at.declared;
+              typed = at_key ∙ looked_at.typed;
               held = ks;
               others = all.0;
-              looks = ap (λ (n : Option MethodTy). looks_of g.t (types_in g.t is.known is.log) g.class.0 (slice_get g.t.bodies site.0) n kinds) at_key ∙ all.1 ∙ append_assoc ks ((r.class.0, r.name.0) ∷ []) all.0;
+              order = looked_at.order;
               holds = held_in g.t is.known is.log (c, g.q.0) answers i.answered;
             };
             own = refl;

@@ -39,7 +39,7 @@ use Rattle.hb_call.specs.Calling.{AreTrue, Given, Goes, HasBody, HasType, HoldsA
 use Rattle.hb_call.specs.Deciding.{AreNext, type_declared}
 use Rattle.hb_call.specs.Rules.{Began, FitsRules, IsNextLook}
 use Rattle.hb_call.specs.Alike.{keeps_join}
-use Rattle.hb_call.specs.GrowthLaws.{each_itself, looks_of_on, prefix_more}
+use Rattle.hb_call.specs.GrowthLaws.{AreLooks, each_itself, looks_by, looks_of_on, prefix_more}
 use Rattle.hb_call.proofs.GrowthLemmas.{each_adds}
 use Rattle.hb_call.proofs.StayLemmas.{acts_rest, type_stays}
 use Rattle.hb_call.proofs.DecidingLemmas.{agrees, fits_type, held_in, learned, parts}
@@ -201,6 +201,9 @@ module _ (g : Given) (was is : Moment) (site : Option BodySite) (old answers : L
       on : (others : List Key) × (looks_of g.t (types_in (sites_of g.t) (declared_in g.t is.known here)) g.class.0 (body_at g.t site) (type_declared g.t g.own.ty) (kinds_of g.args) ≡ map key_asked (answers_of held.first) ++ (held.answer.class.0, held.answer.name.0) ∷ others)
       on = next_of held.first held.rest held.answer held.among (declared_in g.t is.known here) (agrees g.t is.known here (c, g.q.0) held.first held.told)
 
+      looked_at : AreLooks g.t (types_in (sites_of g.t) (declared_in g.t is.known here)) g.class.0 (body_at g.t site) (type_declared g.t g.own.ty) (map key_asked (answers_of held.first) ++ (held.answer.class.0, held.answer.name.0) ∷ on.0)
+      looked_at = looks_by g.t (types_in (sites_of g.t) (declared_in g.t is.known here)) g.class.0 (body_at g.t site) (type_declared g.t g.own.ty) (kinds_of g.args) (map key_asked (answers_of held.first)) on.0 (held.answer.class.0, held.answer.name.0) on.1
+
       next : IsNextLook g.t is.known c g.q here (held.answer.class.0, held.answer.name.0)
       next = record {
         key = g.key;
@@ -210,9 +213,12 @@ module _ (g : Given) (was is : Moment) (site : Option BodySite) (old answers : L
         named = named;
         site = site;
         had = began.had;
-        kinds = kinds_of g.args;
+        body = looked_at.body;
+        defined = looked_at.defined;
+        declared = looked_at.declared;
+        typed = at_key ∙ looked_at.typed;
         held = map key_asked (answers_of held.first);
         others = on.0;
-        looks = ap (λ (n : Option MethodTy). looks_of g.t (types_in (sites_of g.t) (declared_in g.t is.known here)) g.class.0 (body_at g.t site) n (kinds_of g.args)) at_key ∙ on.1;
+        order = looked_at.order;
         holds = held_in g.t is.known here (c, g.q.0) held.first held.told;
       }

@@ -1,5 +1,5 @@
 -- A call that gives back all but its own key.
-use Rattle.std.proofs.Common.{◌≡◌, ℕ, ◌+◌, ◌-◌, ◌<◌, ◌≤◌, inl, Bool, true, false, cond, eqb, List, [], ◌∷◌, ◌++◌, length, map, take, drop, sym, refl, ap, ◌∙◌, subst, arith, eq-eqb, nat_eq}
+use Rattle.std.proofs.Common.{◌≡◌, ℕ, ◌+◌, ◌-◌, ◌<◌, ◌≤◌, inl, inr, Bool, true, false, cond, eqb, List, [], ◌∷◌, ◌++◌, length, map, take, drop, sym, refl, ap, ◌∙◌, subst, arith, eq-eqb, nat_eq}
 use Rattle.std.proofs.lemmas.Bool.{eqb-true}
 use Rattle.std.specs.List.{AllByRecursion}
 use mathlib.Core.List.{IsPrefix}
@@ -17,7 +17,7 @@ use Rattle.hb_tables.specs.Standing.{Stand, standing, standing_from, count_of}
 use Rattle.hb_tables.proofs.StandingLemmas.{standing_append, held_stands}
 use Rattle.hb_call.specs.declared.answers.Answer.{Answer}
 use Rattle.hb_call.specs.Held.{HasRoom, MayFree, frees, stands}
-use Rattle.hb_call.specs.Calling.{HasType, IsAskedFor, IsCalling, MayRetreat}
+use Rattle.hb_call.specs.Calling.{Given, HasType, IsAskedFor, IsCalling, MayRetreat, StaysUnfit}
 use Rattle.hb_call.specs.Growth.{EachNew}
 use Rattle.hb_call.specs.Rules.{FitsRules}
 use Rattle.hb_call.proofs.RunsLemmas.{retreat_fits}
@@ -105,6 +105,28 @@ module _ (t : Table) (door : Fixed) (q : CallNo) (names asked : List Name) (log 
 
   pub retreat_rules : (new : List Entry) → MayRetreat door.caller q key log → acts door.caller new ≡ acts door.caller log ++ frees q h.first.0 → EachNew (FitsRules t names door.caller) door.caller log new
   retreat_rules new may is = retreat_fits t names door.caller q key h.first.0 log new begins.h begins.rest may begins.is begins.keys once are_others is
+
+-- a call that was answered nothing holds its own key alone
+pub alone : (t : Table) (door : Fixed) (q : CallNo) (names asked : List Name) (log : List Entry) (key : KeyId) (own : Held) (held : List KeyId) → IsCalling t door q.0 names asked log key own held [] → held ≡ key ∷ []
+alone t door q names asked log key own held h =
+    h.first.1 ∙ ap (λ ks. key ∷ ks) (by h.first.0 (begins t door q names asked log key own held [] h) (are_others t door q names asked log key own held [] h))
+  where
+    by : (others : List KeyId) → First key others (stands door.caller q.0 log) → AreOthers key.0 others → others ≡ []
+    by [] f apart = refl
+    by (j ∷ others) f apart = absurd (second j f.rest f.keys apart.0 f.is)
+      where
+        second : (j : KeyId) (rest : List Stand) → map (λ (h : Stand). h.key) rest ≡ map (λ (k : KeyId). k.0) (j ∷ others) → nat_eq j.0 key.0 ≡ false → stands door.caller q.0 log ≡ f.h ∷ rest → ⊥
+        second j [] e apart is = cc e
+        second j (s ∷ rest) e apart is =
+            let same : j.0 ≡ s.key = cc e in
+            let some : 1 ≤ count_of j.0 (stands door.caller q.0 log) = subst (λ hs. 1 ≤ count_of j.0 hs) (sym is) (let e = eq-eqb j.0 s.key same in rw e (omega arith)) in
+            let once = h.holds.once j.0 in let n = held_stands door.caller q.0 j.0 log in
+            elim (h.only j.0 (omega (arith, some, once, n))) [ inl e ↦ (let t = eq-eqb j.0 key.0 e in cc (t, apart)) | inr none ↦ none ]
+
+-- so it is as it begins
+pub early_unfit : (g : Given) (names asked : List Name) (log : List Entry) (held : List KeyId) (compared answers : List Answer) → compared ≡ [] → answers ≡ [] → IsCalling g.t g.door g.q.0 names asked log g.key g.own held (compared ++ answers) → StaysUnfit g log log held
+early_unfit g names asked log held compared answers e f h unfit =
+    (refl, alone g.t g.door g.q names asked log g.key g.own held (subst (λ (l : List Answer). IsCalling g.t g.door g.q.0 names asked log g.key g.own held l) (ap (λ l. l ++ answers) e ∙ f) h))
 
 take-whole : (l : List KeyId) → take (length l) l ≡ l
 take-whole [] = refl

@@ -17,7 +17,7 @@ use Rattle.hb_tables.specs.Answers.{Fixed}
 use Rattle.hb_tables.specs.History.{spot, times, Adds, Learns, IsLegal}
 use Rattle.hb_tables.specs.Frames.{acts}
 use Rattle.hb_tables.specs.Standing.{standing}
-use Rattle.hb_tables.specs.Rows.{IsDecided, kinds_of}
+use Rattle.hb_tables.specs.Rows.{IsDecided, IsFilled, kinds_of}
 use Rattle.hb_tables.proofs.DeskLemmas.{adds_apart, adds_prefix, learns_acts, learns_prefix}
 use Rattle.hb_tables.proofs.StandingLemmas.{has_part}
 use Rattle.hb_call.specs.Held.{frees}
@@ -43,7 +43,7 @@ module _ (g : Given) (known asked : List Name) where
   went_names longer log named few differ = record { named = named; few = λ h. few; differ = λ h. differ; kept = prefix_itself log; legal = λ h. h; others = λ p other. refl }
 
   pub goes_names : (longer : List Name) (log : List Entry) → IsPrefix known longer → length longer ≤ NAMES_MAX → Differ longer → Goes g (at known asked log) (at longer asked log)
-  goes_names longer log named few differ = record { went = went_names longer log named few differ; grew = grows_itself g.door.caller longer asked log; keeps = tt; parts = tt; begun = λ kinds start b. b }
+  goes_names longer log named few differ = record { went = went_names longer log named few differ; grew = grows_itself g.door.caller longer asked log; keeps = tt; parts = tt; begun = λ fits start b. b }
 
   pub went_adds : (more : List Name) (old new : List Entry) (a : Act) → Adds g.door.caller old new a → IsLegal g.door.limit new → ((p : ℕ) → p ≢ g.q.0 → has_part p a ≡ false) → Went g (at known asked old) (at known more new)
   went_adds more old new a adds legal apart = record {
@@ -68,7 +68,7 @@ module _ (g : Given) (known asked : List Name) where
     grew = grows_adds g.door.caller longer asked (with_name asked name) old new (Hold g.q key ty n) adds (λ names p. sym (key_named longer names asked name key.0 e p));
     keeps = (refl, tt);
     parts = (refl, tt);
-    begun = λ kinds start b. begun_hold g.door.caller g.q g.key key kinds ty n start old new adds b;
+    begun = λ fits start b. begun_hold g key ty n start old new adds fits b;
   }
 
   -- a key was asked for, and is held from before or from here on
@@ -95,7 +95,7 @@ module _ (g : Given) (known asked : List Name) where
     grew = grows_learns g.door.caller known asked asked old new learns refl;
     keeps = tt;
     parts = tt;
-    begun = λ kinds start b. begun_learns g.door.caller g.q g.key kinds start old new learns b;
+    begun = λ fits start b. begun_learns g start old new learns b;
   }
 
   pub went_frees : (old new : List Entry) (keys : List KeyId) → IsPrefix old new → acts g.door.caller new ≡ acts g.door.caller old ++ frees g.q keys → (IsLegal g.door.limit old → IsLegal g.door.limit new) → Went g (at known asked old) (at known asked new)
@@ -114,14 +114,14 @@ module _ (g : Given) (known asked : List Name) where
     grew = grows_frees g.door.caller known asked g.q keys old new kept is;
     keeps = keeps_others g.q g.key.0 keys others;
     parts = parts_frees g.q keys;
-    begun = λ kinds start b. begun_frees g.door.caller g.q g.key kinds keys start old new is others b;
+    begun = λ fits start b. begun_frees g keys start old new is others fits b;
   }
 
   -- the Call comes last, as its row says, and enters in the right way
-  pub grew_call : (old new : List Entry) (site : Option BodySite) (v : Verdict) (adds : Adds g.door.caller old new (Call g.q g.key site g.args v)) → IsDecided g.t known (old ++ adds.0) (g.door.caller, g.q.0) g.key.0 site (kinds_of g.args) v → IsWhole g.door.caller g.q.0 (old ++ adds.0) → IsRightWay g.door.caller g.key.0 (old ++ adds.0) v → Grew g (at known asked old) (at known asked new)
-  grew_call old new site v adds row whole way =
+  pub grew_call : (old new : List Entry) (site : Option BodySite) (v : Verdict) (adds : Adds g.door.caller old new (Call g.q g.key site g.args v)) → IsFilled g.args → IsDecided g.t known (old ++ adds.0) (g.door.caller, g.q.0) g.key.0 site (kinds_of g.args) v → IsWhole g.door.caller g.q.0 (old ++ adds.0) → IsRightWay g.door.caller g.key.0 (old ++ adds.0) v → Grew g (at known asked old) (at known asked new)
+  grew_call old new site v adds filled row whole way =
       with_rules g.t g.door.caller known asked asked old new (grows_adds g.door.caller known asked asked old new (Call g.q g.key site g.args v) adds (λ names p. refl))
-      (each_adds (FitsRules g.t known g.door.caller) g.door.caller old new (Call g.q g.key site g.args v) adds (record { row = row; hold = tt; free = tt; whole = whole; named = tt; entered = way }))
+      (each_adds (FitsRules g.t known g.door.caller) g.door.caller old new (Call g.q g.key site g.args v) adds (record { row = (row, filled); hold = tt; free = tt; whole = whole; named = tt; entered = way }))
 
   pub went_call : (old new : List Entry) (site : Option BodySite) (v : Verdict) → Adds g.door.caller old new (Call g.q g.key site g.args v) → IsLegal g.door.limit new → Went g (at known asked old) (at known asked new)
   went_call old new site v adds legal = went_adds asked old new (Call g.q g.key site g.args v) adds legal (λ p other. refl)

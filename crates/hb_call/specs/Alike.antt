@@ -36,7 +36,7 @@ parts_join q [] m h i = i
 parts_join q (a ∷ l) m h i = (h.0, parts_join q l m h.1 i)
 
 pub goes_itself : (g : Given) (m : Moment) → Goes g m m
-goes_itself g m = record { went = went_itself g m; grew = grows_itself g.door.caller m.known m.asked m.log; keeps = tt; parts = tt; begun = λ kinds start b. b }
+goes_itself g m = record { went = went_itself g m; grew = grows_itself g.door.caller m.known m.asked m.log; keeps = tt; parts = tt; begun = λ fits start b. b }
 
 pub goes_on : (g : Given) (a b c : Moment) → Goes g a b → Goes g b c → Goes g a c
 goes_on g a b c p q = record {
@@ -44,7 +44,7 @@ goes_on g a b c p q = record {
   grew = grows_on g.door.caller b.known c.known a.asked b.asked c.asked a.log b.log c.log p.grew q.grew q.went.named;
   keeps = keeps_join g.q.0 g.key.0 p.grew.made q.grew.made p.keeps q.keeps;
   parts = parts_join g.q p.grew.made q.grew.made p.parts q.parts;
-  begun = λ kinds start x. q.begun kinds start (p.begun kinds start x);
+  begun = λ fits start x. q.begun fits start (p.begun fits start x);
 }
 
 pub alike_itself : (g : Given) (m : Moment) → IsAlike g g m m

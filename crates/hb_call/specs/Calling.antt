@@ -2,7 +2,6 @@
 use Rattle.std.specs.Prelude.{◌≡◌, ℕ, ◌+◌, ◌<◌, ◌≤◌, ◌⊎◌, Bool, true, false, List, [], ◌∷◌, ◌++◌, length, map, slice_get, Option, Some, None, nat_eq, if◌then◌else◌}
 use mathlib.Core.List.{IsPrefix}
 use Rattle.hb_types.specs.declared.types.TheConstants.{PARAMS_MAX}
-use Rattle.hb_types.specs.declared.types.Ty.{Ty}
 use Rattle.hb_types.specs.declared.ids.CallNo.{CallNo}
 use Rattle.hb_types.specs.declared.ids.ClassId.{ClassId}
 use Rattle.hb_types.specs.declared.ids.KeyId.{KeyId}
@@ -24,9 +23,10 @@ use Rattle.hb_types.specs.declared.ids.BodySite.{BodySite}
 use Rattle.hb_tables.specs.Frames.{acts, KeepsHold, StaysLive}
 use Rattle.hb_tables.specs.History.{spot, times, Adds, IsLegal}
 use Rattle.hb_tables.specs.Names.{name_of}
+use Rattle.hb_tables.specs.Rows.{IsFilled, kinds_of}
 use Rattle.hb_call.specs.declared.answers.Answer.{Answer}
 use Rattle.hb_call.specs.declared.answers.Refused.{Refused}
-use Rattle.hb_call.specs.Reading.{decision, call_of}
+use Rattle.hb_call.specs.Reading.{decision, call_of, takes_at}
 use Rattle.hb_call.specs.Held.{HasRoom, Holds, stands}
 use Rattle.hb_call.specs.Growth.{EachNew, Grown, Grows}
 use Rattle.hb_call.specs.Rules.{Began, FitsRules, HadBody, IsWhole, runs}
@@ -90,12 +90,6 @@ abbrev pub IsRefusedRightly : Table → List Name → Option Refused → Type 0
 IsRefusedRightly t names None = Unit {0}
 IsRefusedRightly t names (Some r) = r.cause ≡ look.Full → IsFull names (name_of t (r.class.0, r.name.0))
 
--- As far as it goes, the acts of the call q of this key that were made since the start are those of a decision, whatever comes behind.
-pub record Begun (c : ℕ) (q : CallNo) (key : KeyId) (kinds : List Ty) (start log : List Entry) : Type 0 where
-  pub made : List Act
-  pub grows : acts c log ≡ acts c start ++ made
-  pub reads : (l : List Act) → call_of q.0 key.0 kinds (made ++ l) ≡ decision q.0 key.0 kinds (stands c q.0 log) l
-
 -- what the call was given, which stays
 pub record Given : Type 0 where
   pub t : Table
@@ -112,6 +106,20 @@ pub record Given : Type 0 where
 
 abbrev pub IsSame : Given → Given → Type 0
 IsSame g h = g ≡ h
+
+-- the type that the own key has takes the arguments
+abbrev pub fits_of : Given → Bool
+fits_of g = takes_at g.t g.own.ty (kinds_of g.args)
+
+-- As far as it goes, the acts of the call that were made since the start are those of a decision, whatever comes behind.
+pub record Begun (g : Given) (start log : List Entry) : Type 0 where
+  pub made : List Act
+  pub grows : acts g.door.caller log ≡ acts g.door.caller start ++ made
+  pub reads : (l : List Act) → call_of g.t g.q.0 g.key.0 (kinds_of g.args) (made ++ l) ≡ decision (fits_of g) g.q.0 g.key.0 (kinds_of g.args) (stands g.door.caller g.q.0 log) l
+
+-- a call whose type does not take the arguments did nothing meanwhile, and holds its own key alone
+abbrev pub StaysUnfit : Given → (old new : List Entry) → List KeyId → Type 0
+StaysUnfit g old new held = fits_of g ≡ false → (acts g.door.caller new ≡ acts g.door.caller old) × (held ≡ g.key ∷ [])
 
 -- the list goes on with acts among which the call frees nothing
 abbrev pub IsLive : ℕ → ℕ → List Entry → List Entry → Type 0
@@ -162,7 +170,7 @@ pub record Goes (g : Given) (was is : Moment) : Type 0 where
   pub grew : Grows g.door.caller is.known was.asked is.asked was.log is.log
   pub keeps : KeepsHold g.q.0 g.key.0 grew.made
   pub parts : AreParts g.q grew.made
-  pub begun : (kinds : List Ty) (start : List Entry) → Begun g.door.caller g.q g.key kinds start was.log → Begun g.door.caller g.q g.key kinds start is.log
+  pub begun : fits_of g ≡ true → (start : List Entry) → Begun g start was.log → Begun g start is.log
 
 pub record IsAlike (g h : Given) (was is : Moment) : Type 0 where
   pub same : g ≡ h
@@ -210,6 +218,6 @@ pub record MayRetreat (c : ℕ) (q : CallNo) (key : KeyId) (log : List Entry) : 
   pub began : Began c q key start log
   pub few : runs q.0 false (acts c began.since) + (spot key.0 start).redefs < (spot key.0 log).redefs
 
--- so many kinds as may be, some of which count
+-- so many kinds as may be, some of which count, and Nil behind them
 abbrev pub IsArgKinds : ArgKinds → Type 0
-IsArgKinds args = (length args.kinds ≡ PARAMS_MAX) × (args.count ≤ PARAMS_MAX)
+IsArgKinds args = (args.count ≤ PARAMS_MAX) × IsFilled args

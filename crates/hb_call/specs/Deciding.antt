@@ -110,9 +110,9 @@ pub record Decided (g : Given) (names : List Name) (old new : List Entry) (v : V
   pub is : new ≡ before ++ entry g.door.caller (Call g.q g.key site g.args v) ∷ []
   pub way : IsRightWay g.door.caller g.key.0 before v
   pub row : IsDecided g.t names before (g.door.caller, g.q.0) g.key.0 site (kinds_of g.args) v
-  pub reads : (start : List Entry) → Begun g.door.caller g.q g.key (kinds_of g.args) start old
+  pub reads : (start : List Entry) → Begun g start old
       → (made : List Act) × (acts g.door.caller new ≡ acts g.door.caller start ++ made)
-      × ((l : List Act) → call_of g.q.0 g.key.0 (kinds_of g.args) (made ++ l) ≡ called g.q.0 site v (stands g.door.caller g.q.0 new) l)
+      × ((l : List Act) → call_of g.t g.q.0 g.key.0 (kinds_of g.args) (made ++ l) ≡ called g.q.0 site v (stands g.door.caller g.q.0 new) l)
 
 -- A check was made. Behind these entries came its Call: there the call held its own key and those of the answers alone, which are the derivation's uses, and what was kept was the caller's own.
 pub record IsResting (g : Given) (known asked : List Name) (new : List Entry) (held : List KeyId) (answers : List Answer) (d : Derivation) : Type 0 where

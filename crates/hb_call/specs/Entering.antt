@@ -1,5 +1,5 @@
 -- What the entry into a call comes to.
-use Rattle.std.specs.Prelude.{◌≡◌, ◌⊎◌, ℕ, List, [], ◌++◌, Option, Some, Result, Ok, Err}
+use Rattle.std.specs.Prelude.{◌≡◌, ◌⊎◌, ℕ, true, List, [], ◌++◌, Option, Some, Result, Ok, Err}
 use mathlib.Core.List.{IsPrefix}
 use Rattle.hb_types.specs.declared.ids.CallNo.{CallNo}
 use Rattle.hb_types.specs.declared.ids.ClassId.{ClassId}
@@ -26,7 +26,7 @@ use Rattle.hb_call.specs.declared.frame.Entered.{Entered}
 use Rattle.hb_call.specs.declared.frame.Entered.TheVariants as entered
 use Rattle.hb_call.specs.Held.{HasCall, Holds, frees, stands}
 use Rattle.hb_call.specs.Reading.{call_of, FullAt}
-use Rattle.hb_call.specs.Calling.{Begun, Given}
+use Rattle.hb_call.specs.Calling.{Begun, Given, fits_of}
 use Rattle.hb_call.specs.declared.answers.Answer.{Answer}
 use Rattle.hb_call.specs.OwnCache.{IsOwnCache}
 use Rattle.hb_call.specs.Deciding.{Decided, IsResting}
@@ -52,7 +52,7 @@ pub record IsDecidedOf (a : Asks) (names : List Name) (old mid : List Entry) (ke
   pub called : given.key ≡ key
   pub named : place names (a.class.0, a.bytes) ≡ Some key.0
   pub first : List Entry
-  pub begun : Begun given.door.caller given.q given.key (kinds_of given.args) old first
+  pub begun : Begun given old first
   pub decided : Decided given names first mid v site
   pub holds : Holds a.door.caller a.q.0 held mid
 
@@ -72,14 +72,14 @@ pub record IsFullAtOnce (a : Asks) (names : List Name) (old new : List Entry) : 
   pub full : IsFull names (a.class.0, a.bytes)
   pub same : new ≡ old
 
--- A method that the call needs is none of the names, and their list is full. The call gave back all that it held.
+-- Its type takes the arguments, and a method that the call needs is none of the names, and their list is full. The call gave back all that it held.
 pub record IsFullLater (a : Asks) (names : List Name) (old new : List Entry) : Type 0 where
   pub key : KeyId
   pub named : place names (a.class.0, a.bytes) ≡ Some key.0
   pub full : (name : Name) × IsFull names name
   pub made : List Act
   pub grows : acts a.door.caller new ≡ acts a.door.caller old ++ made
-  pub reads : (l : List Act) → call_of a.q.0 key.0 (kinds_of a.args) (made ++ l) ≡ FullAt l
+  pub reads : (l : List Act) → call_of a.t a.q.0 key.0 (kinds_of a.args) (made ++ l) ≡ FullAt l
   pub none : stands a.door.caller a.q.0 new ≡ []
 
 abbrev pub Enters : Asks → List Name → List Entry → List Entry → Result Entered CallFail → Type 0
@@ -88,10 +88,10 @@ Enters a names old new (Ok (entered.Refused v)) = IsRefused a names old new v
 Enters a names old new (Err fail.Full) = IsFullAtOnce a names old new ⊎ IsFullLater a names old new
 Enters a names old new (Err fail.NoMemory) = stands a.door.caller a.q.0 new ≡ []
 
--- where a call found the list of names full, it is so, and one name is none of them
-abbrev pub IsFullFor : List Name → CallFail → Type 0
-IsFullFor names fail.Full = (name : Name) × IsFull names name
-IsFullFor names fail.NoMemory = Unit {0}
+-- where a call found the list of names full, it is so, and one name is none of them, and its type takes the arguments
+abbrev pub IsFullFor : Given → List Name → CallFail → Type 0
+IsFullFor g names fail.Full = (fits_of g ≡ true) × ((name : Name) × IsFull names name)
+IsFullFor g names fail.NoMemory = Unit {0}
 
 -- where a call found the list of names full, it did so rightly
 abbrev pub IsRightlyFor : Table → List Name → ℕ → CallNo → KeyId → List Entry → CallFail → Type 0
@@ -122,9 +122,9 @@ pub record GaveBack (g : Given) (names : List Name) (old new : List Entry) (v : 
 -- A method that the call needs is none of the names, and their list is full. The call that was given so gave back all that it held.
 pub record GaveUp (g : Given) (names : List Name) (old new : List Entry) : Type 0 where
   pub full : (name : Name) × IsFull names name
-  pub reads : (start : List Entry) → Begun g.door.caller g.q g.key (kinds_of g.args) start old
+  pub reads : (start : List Entry) → Begun g start old
       → (made : List Act) × (acts g.door.caller new ≡ acts g.door.caller start ++ made)
-      × ((l : List Act) → call_of g.q.0 g.key.0 (kinds_of g.args) (made ++ l) ≡ FullAt l)
+      × ((l : List Act) → call_of g.t g.q.0 g.key.0 (kinds_of g.args) (made ++ l) ≡ FullAt l)
   pub none : stands g.door.caller g.q.0 new ≡ []
 
 abbrev pub Finished : Given → List Name → List Entry → List Entry → Result Ended CallFail → Type 0

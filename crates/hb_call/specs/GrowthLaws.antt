@@ -21,7 +21,7 @@ use Rattle.hb_tables.specs.Verdicts.{looks_of, subject, takes}
 use Rattle.hb_tables.specs.declared.entry.Entry.{Entry}
 use Rattle.hb_tables.specs.declared.entry.Act.{Act}
 use Rattle.hb_tables.specs.declared.entry.Act.TheVariants.{Hold, Free, Retype, Busy, WornType, Define, WornDef, Call}
-use Rattle.hb_tables.specs.Rows.{FitsCall, HoldsName, body_at, kinds_of, site_in, type_of_key, types_in}
+use Rattle.hb_tables.specs.Rows.{FitsCall, HoldsName, kinds_of, site_in, types_in}
 use Rattle.hb_tables.proofs.RowLemmas.{row_longer}
 use Rattle.hb_call.specs.Held.{HasCall}
 use Rattle.hb_call.specs.Rules.{FitsFree, FitsHold, FitsRules, HasName, IsNextLook}
@@ -47,7 +47,7 @@ module _ (F : List Entry → Act → Type 0) (c : ℕ) where
   each_on a b d p left right before after e is from own = elim (split b p.0 before after e (p.1 ∙ is)) [ inl r ↦ right before after e is r own | inr r ↦ left before r.0 e r.1 from own ]
 
 fits_longer : (t : Table) (names more : List Name) (c : ℕ) (before : List Entry) (a : Act) → FitsCall t names c before a → FitsCall t (names ++ more) c before a
-fits_longer t names more c before (Call q key site args v) d = row_longer t names more before (c, q.0) key.0 site (kinds_of args) v d
+fits_longer t names more c before (Call q key site args v) d = (row_longer t names more before (c, q.0) key.0 site (kinds_of args) v d.0, d.1)
 fits_longer t names more c before (Hold q key ty changes) d = d
 fits_longer t names more c before (Free q key) d = d
 fits_longer t names more c before (Retype key site) d = d
@@ -86,9 +86,32 @@ looks_of_on t T U class (Some b) (Some m) kinds ks rest k e same = by (takes m k
     by true e = looks_onward T U (subject t class b m) ks rest k e same
     by false e = absurd (none_there ks e)
 
+-- what is looked at is looked at by a check of a body at a type
+pub record AreLooks (t : Table) (T : Types) (class : ℕ) (b : Option Body) (m : Option MethodTy) (ks : List Key) : Type 0 where
+  pub body : Body
+  pub defined : b ≡ Some body
+  pub declared : MethodTy
+  pub typed : m ≡ Some declared
+  pub order : looks T (subject t class body declared) ≡ ks
+
+pub looks_by : (t : Table) (T : Types) (class : ℕ) (b : Option Body) (m : Option MethodTy) (kinds : List Ty) (ks rest : List Key) (k : Key) → looks_of t T class b m kinds ≡ ks ++ k ∷ rest → AreLooks t T class b m (ks ++ k ∷ rest)
+looks_by t T class None m kinds [] rest k e = absurd (cc e)
+looks_by t T class None m kinds (x ∷ ks) rest k e = absurd (cc e)
+looks_by t T class (Some b) None kinds [] rest k e = absurd (cc e)
+looks_by t T class (Some b) None kinds (x ∷ ks) rest k e = absurd (cc e)
+looks_by t T class (Some b) (Some m) kinds ks rest k e = by (takes m kinds) e
+  where
+    none_there : (ks : List Key) → [] ≡ ks ++ k ∷ rest → ⊥
+    none_there [] e = cc e
+    none_there (x ∷ ks) e = cc e
+
+    by : (a : Bool) → (if a then looks T (subject t class b m) else []) ≡ ks ++ k ∷ rest → AreLooks t T class (Some b) (Some m) (ks ++ k ∷ rest)
+    by true e = record { body = b; defined = refl; declared = m; typed = refl; order = e }
+    by false e = absurd (none_there ks e)
+
 abbrev next_longer : (t : Table) (names known : List Name) (c : ℕ) (q : CallNo) (log : List Entry) (next : Key) → IsPrefix names known → IsNextLook t names c q log next → IsNextLook t known c q log next
 next_longer t names known c q log next longer n =
-    let on = looks_of_on t (types_in t names log) (types_in t known log) n.name.0 (body_at t n.site) (type_of_key t log n.key.0) n.kinds n.held n.others next n.looks (types_longer t names known log (c, q.0) n.held longer n.holds) in
+    let on = looks_onward (types_in t names log) (types_in t known log) (subject t n.name.0 n.body n.declared) n.held n.others next n.order (types_longer t names known log (c, q.0) n.held longer n.holds) in
     record {
       key = n.key;
       start = n.start;
@@ -97,10 +120,13 @@ next_longer t names known c q log next longer n =
       named = place-longer names known n.name n.key.0 longer n.named;
       site = n.site;
       had = n.had;
-      kinds = n.kinds;
+      body = n.body;
+      defined = n.defined;
+      declared = n.declared;
+      typed = n.typed;
       held = n.held;
       others = on.0;
-      looks = on.1;
+      order = on.1;
       holds = λ p i. let h = n.holds p i in (h.0, place-longer names known p h.0 longer h.1, h.2);
     }
 

@@ -1,14 +1,20 @@
 -- What a call reads of its caller's acts.
 use Rattle.std.specs.Prelude.{ℕ, List, [], ◌∷◌, ◌++◌, Option, Some, None, Bool, true, false, nat_eq, ◌&&◌, if◌then◌else◌}
+use Rattle.std.specs.Option.{option_map}
 use Rattle.hb_types.specs.declared.ids.BodySite.{BodySite}
+use Rattle.hb_types.specs.declared.ids.TypeSite.{TypeSite}
 use Rattle.hb_types.specs.declared.types.Ty.{Ty}
 use Rattle.hb_types.specs.Types.{same_ty}
+use Rattle.hb_tree.specs.Table.{Table}
+use Rattle.hb_deriv.specs.Derivation.{type_at}
+use Rattle.hb_deriv.specs.Programs.{sites_of}
 use Rattle.hb_tables.specs.declared.entry.Act.{Act}
 use Rattle.hb_tables.specs.declared.entry.Act.TheVariants.{Hold, Free, Call}
 use Rattle.hb_tables.specs.declared.entry.Verdict.{Verdict}
 use Rattle.hb_tables.specs.declared.entry.Verdict.TheVariants as verdict
 use Rattle.hb_tables.specs.Standing.{Stand, all_but}
 use Rattle.hb_tables.specs.Rows.{kinds_of}
+use Rattle.hb_tables.specs.Verdicts.{typed_takes}
 
 -- A call that was decided, with the Holds that stand behind it; one that found the list of names full; or no call. Behind it the rest is left.
 pub data Read : Type 0 where
@@ -40,17 +46,21 @@ same_kinds [] [] = true
 same_kinds (a ∷ xs) (b ∷ ys) = same_ty a b && same_kinds xs ys
 same_kinds _ _ = false
 
--- Holds and Frees by q, and then its Call of the key k with these kinds. A Free of k begins the last Frees of a call that is Full.
-abbrev pub decision : ℕ → ℕ → List Ty → List Stand → List Act → Read
-decision q k kinds held (Hold p key ty changes ∷ l) = if nat_eq p.0 q then decision q k kinds (held ++ record { key = key.0; ty = ty; changes = changes } ∷ []) l else Lost
-decision q k kinds held (Free p key ∷ l) =
-    if nat_eq p.0 q
-    then (if nat_eq key.0 k then full_at (freed q held (Free p key ∷ l)) else decision q k kinds (all_but key.0 held) l)
-    else Lost
-decision q k kinds held (Call p key site args v ∷ l) = if nat_eq p.0 q && nat_eq key.0 k && same_kinds kinds (kinds_of args) then called q site v held l else Lost
-decision q k kinds held _ = Lost
+-- there is a type at the site, and it takes arguments of these kinds
+abbrev pub takes_at : Table → Option TypeSite → List Ty → Bool
+takes_at t site kinds = typed_takes (type_at (sites_of t) (option_map (λ s. s.0) site)) kinds
 
--- the acts of the call q of the key k with these kinds of arguments, which begin with the Hold of k
-abbrev pub call_of : ℕ → ℕ → List Ty → List Act → Read
-call_of q k kinds (Hold p key ty changes ∷ l) = if nat_eq key.0 k then decision q k kinds [] (Hold p key ty changes ∷ l) else Lost
-call_of q k kinds _ = Lost
+-- What follows the first Hold of q. Where its type fits the arguments, there are Holds and Frees by q, and a Free of k begins the last Frees of a call that is Full. Else there is nothing but the Call of the key k with these kinds.
+abbrev pub decision : (fits : Bool) → ℕ → ℕ → List Ty → List Stand → List Act → Read
+decision fits q k kinds held (Hold p key ty changes ∷ l) = if fits && nat_eq p.0 q then decision fits q k kinds (held ++ record { key = key.0; ty = ty; changes = changes } ∷ []) l else Lost
+decision fits q k kinds held (Free p key ∷ l) =
+    if fits && nat_eq p.0 q
+    then (if nat_eq key.0 k then full_at (freed q held (Free p key ∷ l)) else decision fits q k kinds (all_but key.0 held) l)
+    else Lost
+decision fits q k kinds held (Call p key site args v ∷ l) = if nat_eq p.0 q && nat_eq key.0 k && same_kinds kinds (kinds_of args) then called q site v held l else Lost
+decision fits q k kinds held _ = Lost
+
+-- The acts of the call q of the key k with these kinds of arguments. They begin with the Hold of k, and go past it as its type takes the arguments.
+abbrev pub call_of : Table → ℕ → ℕ → List Ty → List Act → Read
+call_of t q k kinds (Hold p key ty changes ∷ l) = if nat_eq p.0 q && nat_eq key.0 k then decision (takes_at t ty kinds) q k kinds (record { key = key.0; ty = ty; changes = changes } ∷ []) l else Lost
+call_of t q k kinds _ = Lost

@@ -1,12 +1,14 @@
 -- What is asked of each act of a caller, over the entries before it.
 use Rattle.std.specs.Prelude.{◌≡◌, ◌⊎◌, ℕ, ◌+◌, ◌<◌, ◌≤◌, ◌==◌, cond, Bool, true, false, length, List, [], ◌∷◌, ◌++◌, Option, Some, map, Contains}
 use mathlib.Core.List.{IsPrefix}
-use Rattle.hb_types.specs.declared.types.Ty.{Ty}
+use Rattle.hb_types.specs.declared.types.MethodTy.{MethodTy}
 use Rattle.hb_types.specs.declared.ids.CallNo.{CallNo}
 use Rattle.hb_types.specs.declared.ids.KeyId.{KeyId}
 use Rattle.hb_types.specs.declared.ids.BodySite.{BodySite}
 use Rattle.hb_types.specs.declared.ids.TypeSite.{TypeSite}
+use Rattle.hb_tree.specs.declared.parts.Body.{Body}
 use Rattle.hb_tree.specs.Table.{Table}
+use Rattle.hb_deriv.specs.Events.{looks}
 use Rattle.hb_deriv.specs.Judge.{Key}
 use Rattle.hb_names.specs.Names.{IsFull, Name, place}
 use Rattle.hb_names.specs.declared.names.TheConstants.{NAMES_MAX}
@@ -22,7 +24,7 @@ use Rattle.hb_tables.specs.Standing.{Stand}
 use Rattle.hb_tables.specs.Frames.{acts, KeepsHold}
 use Rattle.hb_tables.specs.Names.{name_of}
 use Rattle.hb_tables.specs.Rows.{FitsCall, HoldsName, body_at, type_of_key, types_in}
-use Rattle.hb_tables.specs.Verdicts.{looks_of}
+use Rattle.hb_tables.specs.Verdicts.{subject}
 use Rattle.hb_call.specs.Held.{HasCall, stands}
 use Rattle.hb_call.specs.Own.{OwnAgrees}
 
@@ -44,7 +46,7 @@ pub record HadBody (k : ℕ) (start log : List Entry) (site : Option BodySite) :
   pub to : IsPrefix at log
   pub is : site ≡ (spot k at).body
 
--- The next look of the call q: the first of the looks that q does not hold. The looks are those behind this list, for a definition that the key of q had since q began, and for some kinds of arguments.
+-- The next look of the call q: the first of the looks that q does not hold. The looks are those of a check behind this list, of a definition that the key of q had since q began, at the key's type.
 pub record IsNextLook (t : Table) (names : List Name) (c : ℕ) (q : CallNo) (log : List Entry) (next : Key) : Type 0 where
   pub key : KeyId
   pub start : List Entry
@@ -53,10 +55,13 @@ pub record IsNextLook (t : Table) (names : List Name) (c : ℕ) (q : CallNo) (lo
   pub named : place names name ≡ Some key.0
   pub site : Option BodySite
   pub had : HadBody key.0 start log site
-  pub kinds : List Ty
+  pub body : Body
+  pub defined : body_at t site ≡ Some body
+  pub declared : MethodTy
+  pub typed : type_of_key t log key.0 ≡ Some declared
   pub held : List Key
   pub others : List Key
-  pub looks : looks_of t (types_in t names log) name.0 (body_at t site) (type_of_key t log key.0) kinds ≡ held ++ next ∷ others
+  pub order : looks (types_in t names log) (subject t name.0 body declared) ≡ held ++ next ∷ others
   pub holds : (p : Name) → Contains (map (name_of t) held) p → HoldsName names log (c, q.0) p
 
 -- The key is that of the next look.

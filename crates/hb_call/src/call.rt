@@ -13,7 +13,7 @@ ghost use Rattle.hb_tables.specs.Verdicts.{takes};
 ghost use Rattle.hb_call.specs.Held.{Holds, frees};
 ghost use Rattle.hb_tables.specs.declared.entry.Entry.{Entry};
 ghost use Rattle.hb_tables.specs.Frames.{acts};
-ghost use Rattle.hb_call.specs.Calling.{FitsSince, Grew, HasBody, HasLooked, IsArgKinds, IsAskedFor, IsCalling, IsHeldFrom, IsLive, IsRefusedRightly, IsSame, MayRetreat, Went, answers_of, held_among};
+ghost use Rattle.hb_call.specs.Calling.{FitsSince, Grew, HasBody, HasLooked, IsArgKinds, IsAskedFor, IsCalling, IsHeldFrom, IsLive, IsRefusedRightly, IsSame, MayRetreat, StaysUnfit, Went, answers_of, held_among};
 ghost use Rattle.hb_call.specs.Comparing.{AsksNoMore, EndsAsking, MarksKept};
 ghost use Rattle.hb_call.specs.Deciding.{Decided, IsOwnBehind, site_by, verdict_by};
 ghost use Rattle.hb_call.specs.Entering.{Finished, IsEndedWell, IsFullFor, IsOwnAtEnd, IsRightlyFor, IsTold};
@@ -81,7 +81,7 @@ impl<D: Desk, N: Names> Call<'_, '_, '_, '_, D, N> {
         ensures decided { IfOk result (λ r. Decided (given_of D.fixed self.new) (N.known self.new.names.now) (D.front self.old.desk.now) (D.front self.new.desk.now) (verdict_by r) (site_by r)) }
         ensures own { IsOwnBehind (given_of D.fixed self.new) (N.known self.new.names.now) (N.asked self.new.names.now) (D.front self.new.desk.now) self.new.held.now.items self.new.answers.now.items result }
         ensures asks { IfOk result (AsksNoMore (given_of D.fixed self.old) (moment_of D.front N.known N.asked self.old) (moment_of D.front N.known N.asked self.new)) }
-        ensures full { IfErr result (IsFullFor (N.known self.new.names.now)) }
+        ensures full { IfErr result (IsFullFor (given_of D.fixed self.new) (N.known self.new.names.now)) }
         ensures rightly { IfErr result (IsRightlyFor self.new.prog.now (N.known self.new.names.now) (D.fixed self.new.desk.now).caller self.new.q self.new.key (D.front self.new.desk.now)) }
     {
         let mut look = first;
@@ -168,9 +168,10 @@ impl<D: Desk, N: Names> Call<'_, '_, '_, '_, D, N> {
         ensures names { N.alike self.old.names.now self.new.names.now }
         ensures ruled { IfOk result (IsRuledNow D.fixed D.front N.known N.asked self.new site) }
         ensures marks { IfOk result (MarksKept self.new.key self.new.cache.now self.new.held.now.items) }
+        ensures unfit { StaysUnfit (given_of D.fixed self.old) (D.front self.old.desk.now) (D.front self.new.desk.now) self.new.held.now.items }
         ensures live { IsLive (D.fixed self.old.desk.now).caller self.old.q.0 (D.front self.old.desk.now) (D.front self.new.desk.now) }
         ensures rules { FitsSince (given_of D.fixed self.old) (moment_of D.front N.known N.asked self.old) (moment_of D.front N.known N.asked self.new) }
-        ensures full { IfErr result (IsFullFor (N.known self.new.names.now)) }
+        ensures full { IfErr result (IsFullFor (given_of D.fixed self.new) (N.known self.new.names.now)) }
         ensures rightly { IfErr result (IsRightlyFor self.new.prog.now (N.known self.new.names.now) (D.fixed self.new.desk.now).caller self.new.q self.new.key (D.front self.new.desk.now)) }
     {
         let Some(body) = site else {
@@ -201,7 +202,7 @@ impl<D: Desk, N: Names> Call<'_, '_, '_, '_, D, N> {
         ensures calling { IsUnderWay D.fixed D.front N.known N.asked self.new }
         ensures alike { GoesOn D.fixed D.front N.known N.asked self.old self.new }
         ensures names { self.new.names ≡ self.old.names }
-        ensures freed { (others : List KeyId) × (acts (D.fixed self.old.desk.now).caller (D.front self.new.desk.now) ≡ acts (D.fixed self.old.desk.now).caller (D.front self.old.desk.now) ++ frees self.old.q others) }
+        ensures freed { (others : List KeyId) × (self.old.held.now.items ≡ self.old.key ∷ others) × (acts (D.fixed self.old.desk.now).caller (D.front self.new.desk.now) ≡ acts (D.fixed self.old.desk.now).caller (D.front self.old.desk.now) ++ frees self.old.q others) }
         ensures rules { FitsSince (given_of D.fixed self.old) (moment_of D.front N.known N.asked self.old) (moment_of D.front N.known N.asked self.new) }
         ensures fresh { (self.new.answers.now.items ≡ []) × (self.new.compared.now.items ≡ []) × (self.new.refused ≡ None) }
     {

@@ -49,7 +49,7 @@ impl<D: Desk, N: Names> Call<'_, '_, '_, '_, D, N> {
         ensures names { N.alike self.old.names.now self.new.names.now }
         ensures ruled { IfOk result (IsRuledNow D.fixed D.front N.known N.asked self.new (Some body)) }
         ensures marks { IfOk result (MarksKept self.new.key self.new.cache.now self.new.held.now.items) }
-        ensures full { IfErr result (IsFullFor (N.known self.new.names.now)) }
+        ensures full { IfErr result (IsFullFor (given_of D.fixed self.new) (N.known self.new.names.now)) }
         ensures rightly { IfErr result (IsRightlyFor self.new.prog.now (N.known self.new.names.now) (D.fixed self.new.desk.now).caller self.new.q self.new.key (D.front self.new.desk.now)) }
     {
         let found = check(alloc, self.prog, self.class, body, declared, self)?;

@@ -27,7 +27,7 @@ use Rattle.hb_eval.specs.Runs.{Run, start, run_of}
 at_place : Node → Placed
 at_place n = record { node = n; line = 1; column = 1 }
 
--- `def A.f(x) x + y end`, and `y`, which is no variable of its body
+-- `def A.f(x) x + y end`, and `y`, which is no variable of its body. There are types of one Int and of no parameter.
 program : Table
 program = record {
   classes = codes "A" ∷ [];
@@ -36,7 +36,7 @@ program = record {
   nodes = at_place (node.Var (record { 0 = 1 })) ∷ at_place (node.Var (record { 0 = 2 })) ∷ at_place (node.Binary op.Add (record { 0 = 0 }) (record { 0 = 1 })) ∷ at_place (node.Block 0 1) ∷ at_place (node.Block 1 1) ∷ [];
   items = record { 0 = 2 } ∷ record { 0 = 0 } ∷ [];
   bodies = record { def = record { 0 = 9 }; block = record { 0 = 3 }; count = 1; params = record { 0 = 1 } ∷ [] } ∷ record { def = record { 0 = 9 }; block = record { 0 = 4 }; count = 1; params = record { 0 = 1 } ∷ [] } ∷ [];
-  types = [];
+  types = (record { count = 1; params = ty.Int ∷ ty.Nil ∷ ty.Nil ∷ ty.Nil ∷ []; result = ty.Any }, record { 0 = 8 }) ∷ (record { count = 0; params = ty.Nil ∷ ty.Nil ∷ ty.Nil ∷ ty.Nil ∷ []; result = ty.Any }, record { 0 = 9 }) ∷ [];
   setup = None;
   scripts = [];
 }
@@ -53,8 +53,11 @@ one e = Trees e NoTree
 kinds : ArgKinds
 kinds = record { count = 1; kinds = ty.Int ∷ ty.Nil ∷ ty.Nil ∷ ty.Nil ∷ [] }
 
+hold_of : (site : ℕ) → ℕ → Act
+hold_of site q = act.Hold (record { 0 = q }) (record { 0 = 0 }) (Some (record { 0 = site })) 1
+
 hold : ℕ → Act
-hold q = act.Hold (record { 0 = q }) (record { 0 = 0 }) (Some (record { 0 = 0 })) 1
+hold = hold_of 0
 
 free : ℕ → Act
 free q = act.Free (record { 0 = q }) (record { 0 = 0 })
@@ -72,25 +75,30 @@ entered = verdict.Enter by.Fresh
 -- a body gives its last item's value, and its call holds its key until then
 gives : run 100 (hold 1 ∷ call 1 1 entered ∷ free 1 ∷ []) (one asks)
     ≡ Some (record { outcome = outcome.Done (value.Int (pos 7)); output = []; acts = (3, hold 1) ∷ (3, call 1 1 entered) ∷ (4, free 1) ∷ []; begun = 4 })
-unfolding run one program at_place asks hold free call kinds entered call_in then_do begin tree_at tree_down
+unfolding run one program at_place asks hold hold_of free call kinds entered call_in then_do begin tree_at tree_down
 gives = refl
 
 -- a body sees no variable of its caller, and its stop passes the call's Frees
 sees : run 100 (hold 1 ∷ call 1 0 entered ∷ free 1 ∷ []) (Trees (TAssign 21 2 (TInt 20 (pos 1))) (one asks))
     ≡ stopped stop.Unbound 1 8 ((5, hold 1) ∷ (5, call 1 0 entered) ∷ (8, free 1) ∷ [])
-unfolding run stopped one program at_place asks hold free call kinds entered call_in then_do begin tree_at tree_down
+unfolding run stopped one program at_place asks hold hold_of free call kinds entered call_in then_do begin tree_at tree_down
 sees = refl
 
 -- a call that may not run gives its key back at once
 refuses : run 100 (hold 1 ∷ call 1 1 verdict.BadArgs ∷ free 1 ∷ []) (one asks)
     ≡ stopped stop.BadArgs 12 3 ((3, hold 1) ∷ (3, call 1 1 verdict.BadArgs) ∷ (3, free 1) ∷ [])
-unfolding run stopped one program at_place asks hold free call kinds call_in then_do begin tree_at tree_down
+unfolding run stopped one program at_place asks hold hold_of free call kinds call_in then_do begin tree_at tree_down
 refuses = refl
 
 -- a call that finds the list of names full gives back what it holds, and has no Call
 full : run 100 (hold 1 ∷ free 1 ∷ []) (one asks) ≡ stopped stop.Full 12 3 ((3, hold 1) ∷ (3, free 1) ∷ [])
-unfolding run stopped one program at_place asks hold free kinds call_in then_do begin tree_at tree_down
+unfolding run stopped one program at_place asks hold hold_of free kinds call_in then_do begin tree_at tree_down
 full = refl
+
+-- where its type does not take the argument, it finds no full list
+unfit : run 100 (hold_of 1 1 ∷ free 1 ∷ []) (one asks) ≡ None
+unfolding run one program at_place asks hold_of free kinds call_in then_do begin tree_at tree_down
+unfit = refl
 
 -- nil has no methods
 nil_is_called : run 100 [] (one (TCall 12 (TNil 10) 0 NoTree)) ≡ stopped stop.NilValue 12 2 []

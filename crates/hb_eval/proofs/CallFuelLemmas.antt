@@ -61,4 +61,4 @@ calls_keep t names zero id r m vs n s h = leaves_received n id (receiver r) s _ 
 calls_keep t names (suc room) id r m vs n s h =
     leaves_received n id (receiver r) s _ (λ c.
     leaves_keyed n id names (place names (c.0, bytes_at t.names m)) s _ (λ key.
-    leaves_called n t (λ block s. ev t names (call_in t names room) (tree_at t block) s) (λ block s l. leaves_tree t names (call_in t names room) (calls_keep t names room) (tree_at t block) n s l) id c vs (call_of s.next key (map kind_of vs) s.journal) s h))
+    leaves_called n t (λ block s. ev t names (call_in t names room) (tree_at t block) s) (λ block s l. leaves_tree t names (call_in t names room) (calls_keep t names room) (tree_at t block) n s l) id c vs (call_of t s.next key (map kind_of vs) s.journal) s h))

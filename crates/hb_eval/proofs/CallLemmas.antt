@@ -64,7 +64,7 @@ call_full t names (suc room) id m v c vs s some h none full =
 -- the acts of the call are read
 pub call_reads : (t : Table) (names : List Name) (room id m : ℕ) (v : Value) (c : ClassId) (key : ℕ) (vs : List Value) (s : St) → room ≢ 0 → receiver v ≡ Ok c
     → place names (c.0, bytes_at t.names m) ≡ Some key
-    → call_in t names room id v m vs s ≡ called t (λ block s. ev t names (call_in t names (room - 1)) (tree_at t block) s) id c vs (call_of s.next key (map kind_of vs) s.journal) s
+    → call_in t names room id v m vs s ≡ called t (λ block s. ev t names (call_in t names (room - 1)) (tree_at t block) s) id c vs (call_of t s.next key (map kind_of vs) s.journal) s
 unfolding call_in
 call_reads t names zero id m v c key vs s some h found = absurd (some refl)
 call_reads t names (suc room) id m v c key vs s some h found =
@@ -133,17 +133,18 @@ gives_back q site v e hs keys rest why same =
 pub record Decision (a : Asks) (old mid : List Entry) (key : KeyId) (v : Verdict) (site : Option BodySite) : Type 0 where
   pub made : List Act
   pub grows : acts a.door.caller mid ≡ acts a.door.caller old ++ made
-  pub reads : (l : List Act) → call_of a.q.0 key.0 (kinds_of a.args) (made ++ l) ≡ reading.called a.q.0 site v (stands a.door.caller a.q.0 mid) l
+  pub reads : (l : List Act) → call_of a.t a.q.0 key.0 (kinds_of a.args) (made ++ l) ≡ reading.called a.q.0 site v (stands a.door.caller a.q.0 mid) l
 
 pub decision_of : (a : Asks) (names : List Name) (old mid : List Entry) (key : KeyId) (v : Verdict) (site : Option BodySite) (held : List KeyId) → IsDecidedOf a names old mid key v site held → Decision a old mid key v site
 decision_of a names old mid key v site held d =
     let r = d.decided.reads old d.begun in
-    let P : Fixed → CallNo → KeyId → ArgKinds → Type 0 = λ door q key args. (made : List Act) × (acts door.caller mid ≡ acts door.caller old ++ made) × ((l : List Act) → call_of q.0 key.0 (kinds_of args) (made ++ l) ≡ reading.called q.0 site v (stands door.caller q.0 mid) l) in
-    let x : P a.door a.q key a.args =
-    subst (λ (y : Fixed). P y a.q key a.args) d.door
-    (subst (λ (y : CallNo). P d.given.door y key a.args) d.q
-    (subst (λ (y : KeyId). P d.given.door d.given.q y a.args) d.called
-    (subst (λ (y : ArgKinds). P d.given.door d.given.q d.given.key y) d.args r))) in
+    let P : Table → Fixed → CallNo → KeyId → ArgKinds → Type 0 = λ t door q key args. (made : List Act) × (acts door.caller mid ≡ acts door.caller old ++ made) × ((l : List Act) → call_of t q.0 key.0 (kinds_of args) (made ++ l) ≡ reading.called q.0 site v (stands door.caller q.0 mid) l) in
+    let x : P a.t a.door a.q key a.args =
+    subst (λ (y : Table). P y a.door a.q key a.args) d.program
+    (subst (λ (y : Fixed). P d.given.t y a.q key a.args) d.door
+    (subst (λ (y : CallNo). P d.given.t d.given.door y key a.args) d.q
+    (subst (λ (y : KeyId). P d.given.t d.given.door d.given.q y a.args) d.called
+    (subst (λ (y : ArgKinds). P d.given.t d.given.door d.given.q d.given.key y) d.args r)))) in
     record { made = x.0; grows = x.1; reads = x.2 }
 
 -- who enters has a body

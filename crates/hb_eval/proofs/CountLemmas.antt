@@ -7,6 +7,7 @@ use Rattle.hb_types.specs.declared.ids.KeyId.{KeyId}
 use Rattle.hb_types.specs.declared.ids.BodySite.{BodySite}
 use Rattle.hb_types.specs.declared.ids.TypeSite.{TypeSite}
 use Rattle.hb_types.specs.declared.types.Ty.{Ty}
+use Rattle.hb_tree.specs.Table.{Table}
 use Rattle.hb_tables.specs.declared.entry.Act.{Act}
 use Rattle.hb_tables.specs.declared.entry.Act.TheVariants.{Hold, Free, Retype, Busy, WornType, Define, WornDef, Call}
 use Rattle.hb_tables.specs.declared.entry.ArgKinds.{ArgKinds}
@@ -14,7 +15,7 @@ use Rattle.hb_tables.specs.declared.entry.Verdict.{Verdict}
 use Rattle.hb_tables.specs.declared.entry.Verdict.TheVariants as verdict
 use Rattle.hb_tables.specs.Standing.{Stand, all_but}
 use Rattle.hb_tables.specs.Rows.{kinds_of}
-use Rattle.hb_call.specs.Reading.{Called, FullAt, Lost, freed, refused_at, full_at, called, same_kinds, decision, call_of}
+use Rattle.hb_call.specs.Reading.{Called, FullAt, Lost, freed, refused_at, full_at, called, same_kinds, decision, call_of, takes_at}
 
 pub count_no : (p : Act → Bool) (a : Act) (l : List Act) → p a ≡ false → count_by p (a ∷ l) ≡ count_by p l
 count_no p a l h = sum_by-cons (λ x. cond (p x) 1 0) a l ∙ ap (λ b. cond b 1 0 + count_by p l) h ∙ (let n = count_by p l in omega arith)
@@ -39,7 +40,7 @@ module _ (p : Act → Bool) (no_hold : (q : CallNo) (key : KeyId) (ty : Option T
   freed_counts q (h ∷ hs) (WornDef key ∷ l) e = absurd (cc)
   freed_counts q (h ∷ hs) (Call r key site args v ∷ l) e = absurd (cc)
 
-  module _ (q k : ℕ) (kinds : List Ty) (site : Option BodySite) (v : Verdict) (held : List Stand) (b : Bool) (is : (r : CallNo) (key : KeyId) (args : ArgKinds) → p (Call r key site args v) ≡ b) where
+  module _ (t : Table) (q k : ℕ) (kinds : List Ty) (site : Option BodySite) (v : Verdict) (held : List Stand) (b : Bool) (is : (r : CallNo) (key : KeyId) (args : ArgKinds) → p (Call r key site args v) ≡ b) where
     refused : (r : CallNo) (key : KeyId) (s : Option BodySite) (args : ArgKinds) (w : Verdict) (hs : List Stand) (l : List Act) (o : Option (List Act)) → freed q hs l ≡ o → refused_at s w o ≡ Called site v held [] → count_by p (Call r key s args w ∷ l) ≡ cond b 1 0
     refused r key s args w hs l None f e = absurd (cc)
     refused r key s args w hs l (Some rest) f e =
@@ -56,40 +57,40 @@ module _ (p : Act → Bool) (no_hold : (q : CallNo) (key : KeyId) (ty : Option T
     at_call r key s args (verdict.IllTyped ill) hs l e = refused r key s args (verdict.IllTyped ill) hs l (freed q hs l) refl e
 
     -- Holds and Frees, one Call, and what was given back
-    decision_counts : (hs : List Stand) (made : List Act) → decision q k kinds hs made ≡ Called site v held [] → count_by p made ≡ cond b 1 0
-    decision_counts hs [] e = absurd (cc)
-    decision_counts hs (Hold r key ty changes ∷ l) e = go (nat_eq r.0 q) e (decision_counts (hs ++ record { key = key.0; ty = ty; changes = changes } ∷ []) l)
+    decision_counts : (fits : Bool) (hs : List Stand) (made : List Act) → decision fits q k kinds hs made ≡ Called site v held [] → count_by p made ≡ cond b 1 0
+    decision_counts fits hs [] e = absurd (cc)
+    decision_counts fits hs (Hold r key ty changes ∷ l) e = go (fits && nat_eq r.0 q) e (decision_counts fits (hs ++ record { key = key.0; ty = ty; changes = changes } ∷ []) l)
       where
-        go : (t : Bool) → (if t then decision q k kinds (hs ++ record { key = key.0; ty = ty; changes = changes } ∷ []) l else Lost) ≡ Called site v held []
-            → (decision q k kinds (hs ++ record { key = key.0; ty = ty; changes = changes } ∷ []) l ≡ Called site v held [] → count_by p l ≡ cond b 1 0) → count_by p (Hold r key ty changes ∷ l) ≡ cond b 1 0
+        go : (t : Bool) → (if t then decision fits q k kinds (hs ++ record { key = key.0; ty = ty; changes = changes } ∷ []) l else Lost) ≡ Called site v held []
+            → (decision fits q k kinds (hs ++ record { key = key.0; ty = ty; changes = changes } ∷ []) l ≡ Called site v held [] → count_by p l ≡ cond b 1 0) → count_by p (Hold r key ty changes ∷ l) ≡ cond b 1 0
         go true e rest = count_no p (Hold r key ty changes) l (no_hold r key ty changes) ∙ rest e
         go false e rest = absurd (cc)
-    decision_counts hs (Free r key ∷ l) e = go (nat_eq r.0 q) (nat_eq key.0 k) (freed q hs (Free r key ∷ l)) e (decision_counts (all_but key.0 hs) l)
+    decision_counts fits hs (Free r key ∷ l) e = go (fits && nat_eq r.0 q) (nat_eq key.0 k) (freed q hs (Free r key ∷ l)) e (decision_counts fits (all_but key.0 hs) l)
       where
-        go : (t u : Bool) (o : Option (List Act)) → (if t then (if u then full_at o else decision q k kinds (all_but key.0 hs) l) else Lost) ≡ Called site v held []
-            → (decision q k kinds (all_but key.0 hs) l ≡ Called site v held [] → count_by p l ≡ cond b 1 0) → count_by p (Free r key ∷ l) ≡ cond b 1 0
+        go : (t u : Bool) (o : Option (List Act)) → (if t then (if u then full_at o else decision fits q k kinds (all_but key.0 hs) l) else Lost) ≡ Called site v held []
+            → (decision fits q k kinds (all_but key.0 hs) l ≡ Called site v held [] → count_by p l ≡ cond b 1 0) → count_by p (Free r key ∷ l) ≡ cond b 1 0
         go true true None e rest = absurd (cc)
         go true true (Some l) e rest = absurd (cc)
         go true false o e rest = count_no p (Free r key) l (no_free r key) ∙ rest e
         go false u o e rest = absurd (cc)
-    decision_counts hs (Call r key s args w ∷ l) e = go (nat_eq r.0 q && nat_eq key.0 k && same_kinds kinds (kinds_of args)) e
+    decision_counts fits hs (Call r key s args w ∷ l) e = go (nat_eq r.0 q && nat_eq key.0 k && same_kinds kinds (kinds_of args)) e
       where
         go : (t : Bool) → (if t then called q s w hs l else Lost) ≡ Called site v held [] → count_by p (Call r key s args w ∷ l) ≡ cond b 1 0
         go true e = at_call r key s args w hs l e
         go false e = absurd (cc)
-    decision_counts hs (Retype key site ∷ l) e = absurd (cc)
-    decision_counts hs (Busy key pins ∷ l) e = absurd (cc)
-    decision_counts hs (WornType key ∷ l) e = absurd (cc)
-    decision_counts hs (Define key site ∷ l) e = absurd (cc)
-    decision_counts hs (WornDef key ∷ l) e = absurd (cc)
+    decision_counts fits hs (Retype key site ∷ l) e = absurd (cc)
+    decision_counts fits hs (Busy key pins ∷ l) e = absurd (cc)
+    decision_counts fits hs (WornType key ∷ l) e = absurd (cc)
+    decision_counts fits hs (Define key site ∷ l) e = absurd (cc)
+    decision_counts fits hs (WornDef key ∷ l) e = absurd (cc)
 
     -- the acts of a call that was decided
-    pub call_counts : (made : List Act) → call_of q k kinds made ≡ Called site v held [] → count_by p made ≡ cond b 1 0
+    pub call_counts : (made : List Act) → call_of t q k kinds made ≡ Called site v held [] → count_by p made ≡ cond b 1 0
     call_counts [] e = absurd (cc)
-    call_counts (Hold r key ty changes ∷ l) e = go (nat_eq key.0 k) e
+    call_counts (Hold r key ty changes ∷ l) e = go (nat_eq r.0 q && nat_eq key.0 k) e
       where
-        go : (t : Bool) → (if t then decision q k kinds [] (Hold r key ty changes ∷ l) else Lost) ≡ Called site v held [] → count_by p (Hold r key ty changes ∷ l) ≡ cond b 1 0
-        go true e = decision_counts [] (Hold r key ty changes ∷ l) e
+        go : (own : Bool) → (if own then decision (takes_at t ty kinds) q k kinds (record { key = key.0; ty = ty; changes = changes } ∷ []) l else Lost) ≡ Called site v held [] → count_by p (Hold r key ty changes ∷ l) ≡ cond b 1 0
+        go true e = count_no p (Hold r key ty changes) l (no_hold r key ty changes) ∙ decision_counts (takes_at t ty kinds) (record { key = key.0; ty = ty; changes = changes } ∷ []) l e
         go false e = absurd (cc)
     call_counts (Free r key ∷ l) e = absurd (cc)
     call_counts (Call r key s args w ∷ l) e = absurd (cc)
@@ -99,7 +100,7 @@ module _ (p : Act → Bool) (no_hold : (q : CallNo) (key : KeyId) (ty : Option T
     call_counts (Define key site ∷ l) e = absurd (cc)
     call_counts (WornDef key ∷ l) e = absurd (cc)
 
-  module _ (q k : ℕ) (kinds : List Ty) where
+  module _ (t : Table) (q k : ℕ) (kinds : List Ty) where
     no_refusal : (s : Option BodySite) (w : Verdict) (o : Option (List Act)) → refused_at s w o ≡ FullAt [] → ⊥
     no_refusal s w None e = cc
     no_refusal s w (Some rest) e = cc
@@ -111,40 +112,40 @@ module _ (p : Act → Bool) (no_hold : (q : CallNo) (key : KeyId) (ty : Option T
     not_full s verdict.BadArgs hs l e = no_refusal s verdict.BadArgs (freed q hs l) e
     not_full s (verdict.IllTyped ill) hs l e = no_refusal s (verdict.IllTyped ill) (freed q hs l) e
 
-    full_decision : (hs : List Stand) (made : List Act) → decision q k kinds hs made ≡ FullAt [] → count_by p made ≡ 0
-    full_decision hs [] e = absurd (cc)
-    full_decision hs (Hold r key ty changes ∷ l) e = go (nat_eq r.0 q) e (full_decision (hs ++ record { key = key.0; ty = ty; changes = changes } ∷ []) l)
+    full_decision : (fits : Bool) (hs : List Stand) (made : List Act) → decision fits q k kinds hs made ≡ FullAt [] → count_by p made ≡ 0
+    full_decision fits hs [] e = absurd (cc)
+    full_decision fits hs (Hold r key ty changes ∷ l) e = go (fits && nat_eq r.0 q) e (full_decision fits (hs ++ record { key = key.0; ty = ty; changes = changes } ∷ []) l)
       where
-        go : (t : Bool) → (if t then decision q k kinds (hs ++ record { key = key.0; ty = ty; changes = changes } ∷ []) l else Lost) ≡ FullAt []
-            → (decision q k kinds (hs ++ record { key = key.0; ty = ty; changes = changes } ∷ []) l ≡ FullAt [] → count_by p l ≡ 0) → count_by p (Hold r key ty changes ∷ l) ≡ 0
+        go : (t : Bool) → (if t then decision fits q k kinds (hs ++ record { key = key.0; ty = ty; changes = changes } ∷ []) l else Lost) ≡ FullAt []
+            → (decision fits q k kinds (hs ++ record { key = key.0; ty = ty; changes = changes } ∷ []) l ≡ FullAt [] → count_by p l ≡ 0) → count_by p (Hold r key ty changes ∷ l) ≡ 0
         go true e rest = count_no p (Hold r key ty changes) l (no_hold r key ty changes) ∙ rest e
         go false e rest = absurd (cc)
-    full_decision hs (Free r key ∷ l) e = go (nat_eq r.0 q) (nat_eq key.0 k) (freed q hs (Free r key ∷ l)) refl e (full_decision (all_but key.0 hs) l)
+    full_decision fits hs (Free r key ∷ l) e = go (fits && nat_eq r.0 q) (nat_eq key.0 k) (freed q hs (Free r key ∷ l)) refl e (full_decision fits (all_but key.0 hs) l)
       where
-        go : (t u : Bool) (o : Option (List Act)) → freed q hs (Free r key ∷ l) ≡ o → (if t then (if u then full_at o else decision q k kinds (all_but key.0 hs) l) else Lost) ≡ FullAt []
-            → (decision q k kinds (all_but key.0 hs) l ≡ FullAt [] → count_by p l ≡ 0) → count_by p (Free r key ∷ l) ≡ 0
+        go : (t u : Bool) (o : Option (List Act)) → freed q hs (Free r key ∷ l) ≡ o → (if t then (if u then full_at o else decision fits q k kinds (all_but key.0 hs) l) else Lost) ≡ FullAt []
+            → (decision fits q k kinds (all_but key.0 hs) l ≡ FullAt [] → count_by p l ≡ 0) → count_by p (Free r key ∷ l) ≡ 0
         go true true None f e rest = absurd (cc)
         go true true (Some left) f e rest = let none : left ≡ [] = cc in freed_counts q hs (Free r key ∷ l) (f ∙ ap (λ n. Some n) none)
         go true false o f e rest = count_no p (Free r key) l (no_free r key) ∙ rest e
         go false u o f e rest = absurd (cc)
-    full_decision hs (Call r key s args w ∷ l) e = go (nat_eq r.0 q && nat_eq key.0 k && same_kinds kinds (kinds_of args)) e
+    full_decision fits hs (Call r key s args w ∷ l) e = go (nat_eq r.0 q && nat_eq key.0 k && same_kinds kinds (kinds_of args)) e
       where
         go : (t : Bool) → (if t then called q s w hs l else Lost) ≡ FullAt [] → count_by p (Call r key s args w ∷ l) ≡ 0
         go true e = absurd (not_full s w hs l e)
         go false e = absurd (cc)
-    full_decision hs (Retype key site ∷ l) e = absurd (cc)
-    full_decision hs (Busy key pins ∷ l) e = absurd (cc)
-    full_decision hs (WornType key ∷ l) e = absurd (cc)
-    full_decision hs (Define key site ∷ l) e = absurd (cc)
-    full_decision hs (WornDef key ∷ l) e = absurd (cc)
+    full_decision fits hs (Retype key site ∷ l) e = absurd (cc)
+    full_decision fits hs (Busy key pins ∷ l) e = absurd (cc)
+    full_decision fits hs (WornType key ∷ l) e = absurd (cc)
+    full_decision fits hs (Define key site ∷ l) e = absurd (cc)
+    full_decision fits hs (WornDef key ∷ l) e = absurd (cc)
 
     -- the acts of a call that found the list of names full
-    pub full_counts : (made : List Act) → call_of q k kinds made ≡ FullAt [] → count_by p made ≡ 0
+    pub full_counts : (made : List Act) → call_of t q k kinds made ≡ FullAt [] → count_by p made ≡ 0
     full_counts [] e = absurd (cc)
-    full_counts (Hold r key ty changes ∷ l) e = go (nat_eq key.0 k) e
+    full_counts (Hold r key ty changes ∷ l) e = go (nat_eq r.0 q && nat_eq key.0 k) e
       where
-        go : (t : Bool) → (if t then decision q k kinds [] (Hold r key ty changes ∷ l) else Lost) ≡ FullAt [] → count_by p (Hold r key ty changes ∷ l) ≡ 0
-        go true e = full_decision [] (Hold r key ty changes ∷ l) e
+        go : (own : Bool) → (if own then decision (takes_at t ty kinds) q k kinds (record { key = key.0; ty = ty; changes = changes } ∷ []) l else Lost) ≡ FullAt [] → count_by p (Hold r key ty changes ∷ l) ≡ 0
+        go true e = count_no p (Hold r key ty changes) l (no_hold r key ty changes) ∙ full_decision (takes_at t ty kinds) (record { key = key.0; ty = ty; changes = changes } ∷ []) l e
         go false e = absurd (cc)
     full_counts (Free r key ∷ l) e = absurd (cc)
     full_counts (Call r key s args w ∷ l) e = absurd (cc)

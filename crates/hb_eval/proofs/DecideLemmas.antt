@@ -3,13 +3,14 @@ use Rattle.std.proofs.Common.{◌≡◌, ℕ, suc, ◌+◌, ◌<◌, ◌≤◌, 
 use Rattle.std.proofs.lemmas.Option.{none-some}
 use Rattle.std.proofs.lemmas.Bool.{eqb-true}
 use Rattle.hb_tables.specs.declared.entry.Act.TheVariants.{Hold, Free, Retype, Busy, WornType, Define, WornDef, Call}
-use Rattle.hb_call.specs.Reading.{FullAt, Lost, call_of, decision}
+use Rattle.hb_deriv.proofs.JudgementLemmas.{and_both}
+use Rattle.hb_call.specs.Reading.{FullAt, Lost, call_of, decision, takes_at}
 use Rattle.hb_call.specs.Growth.{Grown, with_found, with_key, asked_after}
 use Rattle.hb_call.specs.GrowthLaws.{grown_itself, grown_on}
 use Rattle.hb_tables.specs.Frames.{acts}
 use Rattle.hb_names.proofs.NameLemmas.{place-append}
 use Rattle.std.proofs.Common.{append-nil}
-use Rattle.std.specs.Prelude.{Ok, slice_get, is_some, if◌then◌else◌}
+use Rattle.std.specs.Prelude.{Ok, slice_get, is_some, ◌&&◌, if◌then◌else◌}
 use mathlib.Core.List.{IsPrefix}
 use Rattle.hb_cache.specs.declared.kept.Kept.{Kept}
 use Rattle.hb_types.specs.declared.ids.CallNo.{CallNo}
@@ -162,24 +163,24 @@ asked_stays names was (WornDef key ∷ l) name k e = asked_stays names (with_key
 asked_stays names was (Call q key site args v ∷ l) name k e = asked_stays names was l name k e
 
 -- the acts of a call ask for its own name first
-asked_first : (names was : List Name) (q k : ℕ) (kinds : List Ty) (made : List Act) (name : Name) → place names name ≡ Some k → call_of q k kinds made ≡ FullAt [] → (j : ℕ) × (place (asked_after names was made) name ≡ Some j)
-asked_first names was q k kinds [] name found e = absurd (cc)
-asked_first names was q k kinds (Hold r key ty changes ∷ l) name found e = go (nat_eq key.0 k) refl e
+asked_first : (t : Table) (names was : List Name) (q k : ℕ) (kinds : List Ty) (made : List Act) (name : Name) → place names name ≡ Some k → call_of t q k kinds made ≡ FullAt [] → (j : ℕ) × (place (asked_after names was made) name ≡ Some j)
+asked_first t names was q k kinds [] name found e = absurd (cc)
+asked_first t names was q k kinds (Hold r key ty changes ∷ l) name found e = go (nat_eq r.0 q && nat_eq key.0 k) refl e
   where
-    go : (b : Bool) → nat_eq key.0 k ≡ b → (if b then decision q k kinds [] (Hold r key ty changes ∷ l) else Lost) ≡ FullAt [] → (j : ℕ) × (place (asked_after names (with_key names was key.0) l) name ≡ Some j)
+    go : (b : Bool) → (nat_eq r.0 q && nat_eq key.0 k) ≡ b → (if b then decision (takes_at t ty kinds) q k kinds (record { key = key.0; ty = ty; changes = changes } ∷ []) l else Lost) ≡ FullAt [] → (j : ℕ) × (place (asked_after names (with_key names was key.0) l) name ≡ Some j)
     go true is e =
-        let same : key.0 ≡ k = eqb-true key.0 k is in
+        let same : key.0 ≡ k = eqb-true key.0 k (and_both _ _ is).1 in
         let at : slice_get names key.0 ≡ Some name = ap (slice_get names) same ∙ place-at names name k found in
         let there = name_there was name in
         (there.0, asked_stays names (with_key names was key.0) l name there.0 (ap (λ o. place (with_found was o) name) at ∙ there.1))
     go false is e = absurd (cc)
-asked_first names was q k kinds (Free r key ∷ l) name found e = absurd (cc)
-asked_first names was q k kinds (Retype key site ∷ l) name found e = absurd (cc)
-asked_first names was q k kinds (Busy key pins ∷ l) name found e = absurd (cc)
-asked_first names was q k kinds (WornType key ∷ l) name found e = absurd (cc)
-asked_first names was q k kinds (Define key site ∷ l) name found e = absurd (cc)
-asked_first names was q k kinds (WornDef key ∷ l) name found e = absurd (cc)
-asked_first names was q k kinds (Call r key site args v ∷ l) name found e = absurd (cc)
+asked_first t names was q k kinds (Free r key ∷ l) name found e = absurd (cc)
+asked_first t names was q k kinds (Retype key site ∷ l) name found e = absurd (cc)
+asked_first t names was q k kinds (Busy key pins ∷ l) name found e = absurd (cc)
+asked_first t names was q k kinds (WornType key ∷ l) name found e = absurd (cc)
+asked_first t names was q k kinds (Define key site ∷ l) name found e = absurd (cc)
+asked_first t names was q k kinds (WornDef key ∷ l) name found e = absurd (cc)
+asked_first t names was q k kinds (Call r key site args v ∷ l) name found e = absurd (cc)
 
 same_end : {A : Type 0} (a b c : List A) → a ++ b ≡ a ++ c → b ≡ c
 same_end [] b c e = e
@@ -190,7 +191,7 @@ pub grown_again : (a : Asks) (known longer was mid again : List Name) (old new :
 grown_again a known longer was mid again old new p h is g =
     let made : g.made ≡ h.made = same_end (acts a.door.caller old) g.made h.made (sym g.grows ∙ h.grows) in
     let asked : mid ≡ asked_after known was h.made = g.names known (prefix_itself known) ∙ ap (asked_after known was) made in
-    let there = asked_first known was a.q.0 h.key.0 (kinds_of a.args) h.made (a.class.0, a.bytes) h.named (ap (call_of a.q.0 h.key.0 (kinds_of a.args)) (sym (append-nil h.made)) ∙ h.reads []) in
+    let there = asked_first a.t known was a.q.0 h.key.0 (kinds_of a.args) h.made (a.class.0, a.bytes) h.named (ap (call_of a.t a.q.0 h.key.0 (kinds_of a.args)) (sym (append-nil h.made)) ∙ h.reads []) in
     let known_there : place mid (a.class.0, a.bytes) ≡ Some there.0 = ap (λ l. place l (a.class.0, a.bytes)) asked ∙ there.1 in
     let same : again ≡ mid = is ∙ ap (λ o. if is_some o then mid else mid ++ (a.class.0, a.bytes) ∷ []) known_there in
     subst (λ l. Grown a.t a.door.caller longer was l old new) (sym same)

@@ -92,21 +92,21 @@ call_full_once known t c log id m at d cl frames old new ops move lt cut is mv f
     call_full t names (room (frames_at frames old)) id.0 m (get_or old.operands.items at d) cl vs s (some_room frames old few) rec (ap (λ l. place l (cl.0, bytes_at t.names m)) same ∙ full.1) (ap length same ∙ full.0))
 
 -- a decided call is one Call, which enters or does not
-enter_tallies : (old : State) (q k : ℕ) (kinds : _) (site : _) (way : By) (held : _) (made : List Act) → call_of q k kinds made ≡ Called site (verdict.Enter way) held [] → (way ≡ by.Shared → ⊥) → Tallies old (counted way old) made
-enter_tallies old q k kinds site by.Shared held made e apart = absurd (apart refl)
-enter_tallies old q k kinds site by.Own held made e apart =
+enter_tallies : (t : Table) (old : State) (q k : ℕ) (kinds : _) (site : _) (way : By) (held : _) (made : List Act) → call_of t q k kinds made ≡ Called site (verdict.Enter way) held [] → (way ≡ by.Shared → ⊥) → Tallies old (counted way old) made
+enter_tallies t old q k kinds site by.Shared held made e apart = absurd (apart refl)
+enter_tallies t old q k kinds site by.Own held made e apart =
     record {
-      decided = omega (arith, call_counts is_call (λ _ _ _ _. refl) (λ _ _. refl) q k kinds site (verdict.Enter by.Own) held true (λ _ _ _. refl) made e);
-      own = omega (arith, call_counts (is_entered by.Own) (λ _ _ _ _. refl) (λ _ _. refl) q k kinds site (verdict.Enter by.Own) held true (λ _ _ _. refl) made e);
-      fresh = omega (arith, call_counts (is_entered by.Fresh) (λ _ _ _ _. refl) (λ _ _. refl) q k kinds site (verdict.Enter by.Own) held false (λ _ _ _. refl) made e);
-      shared = call_counts (is_entered by.Shared) (λ _ _ _ _. refl) (λ _ _. refl) q k kinds site (verdict.Enter by.Own) held false (λ _ _ _. refl) made e;
+      decided = omega (arith, call_counts is_call (λ _ _ _ _. refl) (λ _ _. refl) t q k kinds site (verdict.Enter by.Own) held true (λ _ _ _. refl) made e);
+      own = omega (arith, call_counts (is_entered by.Own) (λ _ _ _ _. refl) (λ _ _. refl) t q k kinds site (verdict.Enter by.Own) held true (λ _ _ _. refl) made e);
+      fresh = omega (arith, call_counts (is_entered by.Fresh) (λ _ _ _ _. refl) (λ _ _. refl) t q k kinds site (verdict.Enter by.Own) held false (λ _ _ _. refl) made e);
+      shared = call_counts (is_entered by.Shared) (λ _ _ _ _. refl) (λ _ _. refl) t q k kinds site (verdict.Enter by.Own) held false (λ _ _ _. refl) made e;
     }
-enter_tallies old q k kinds site by.Fresh held made e apart =
+enter_tallies t old q k kinds site by.Fresh held made e apart =
     record {
-      decided = omega (arith, call_counts is_call (λ _ _ _ _. refl) (λ _ _. refl) q k kinds site (verdict.Enter by.Fresh) held true (λ _ _ _. refl) made e);
-      own = omega (arith, call_counts (is_entered by.Own) (λ _ _ _ _. refl) (λ _ _. refl) q k kinds site (verdict.Enter by.Fresh) held false (λ _ _ _. refl) made e);
-      fresh = omega (arith, call_counts (is_entered by.Fresh) (λ _ _ _ _. refl) (λ _ _. refl) q k kinds site (verdict.Enter by.Fresh) held true (λ _ _ _. refl) made e);
-      shared = call_counts (is_entered by.Shared) (λ _ _ _ _. refl) (λ _ _. refl) q k kinds site (verdict.Enter by.Fresh) held false (λ _ _ _. refl) made e;
+      decided = omega (arith, call_counts is_call (λ _ _ _ _. refl) (λ _ _. refl) t q k kinds site (verdict.Enter by.Fresh) held true (λ _ _ _. refl) made e);
+      own = omega (arith, call_counts (is_entered by.Own) (λ _ _ _ _. refl) (λ _ _. refl) t q k kinds site (verdict.Enter by.Fresh) held false (λ _ _ _. refl) made e);
+      fresh = omega (arith, call_counts (is_entered by.Fresh) (λ _ _ _ _. refl) (λ _ _. refl) t q k kinds site (verdict.Enter by.Fresh) held true (λ _ _ _. refl) made e);
+      shared = call_counts (is_entered by.Shared) (λ _ _ _ _. refl) (λ _ _. refl) t q k kinds site (verdict.Enter by.Fresh) held false (λ _ _ _. refl) made e;
     }
 
 no_way : (way : By) (v : Verdict) (e : Stop) → refusal v ≡ Some e → (q : CallNo) (key : _) (site : _) (args : ArgKinds) → is_entered way (Call q key site args v) ≡ false
@@ -116,22 +116,22 @@ no_way way verdict.NoType e h q key site args = refl
 no_way way verdict.BadArgs e h q key site args = refl
 no_way way (verdict.IllTyped ill) e h q key site args = refl
 
-refuse_tallies : (old new : State) (q k : ℕ) (kinds : _) (site : _) (v : Verdict) (e : Stop) (made : List Act) → refusal v ≡ Some e → call_of q k kinds made ≡ Called site v [] [] → new.decided ≡ old.decided + 1 → new.own ≡ old.own → new.fresh ≡ old.fresh → Tallies old new made
-refuse_tallies old new q k kinds site v e made why f decided own fresh =
+refuse_tallies : (t : Table) (old new : State) (q k : ℕ) (kinds : _) (site : _) (v : Verdict) (e : Stop) (made : List Act) → refusal v ≡ Some e → call_of t q k kinds made ≡ Called site v [] [] → new.decided ≡ old.decided + 1 → new.own ≡ old.own → new.fresh ≡ old.fresh → Tallies old new made
+refuse_tallies t old new q k kinds site v e made why f decided own fresh =
     record {
-      decided = omega (arith, decided, call_counts is_call (λ _ _ _ _. refl) (λ _ _. refl) q k kinds site v [] true (λ _ _ _. refl) made f);
-      own = omega (arith, own, call_counts (is_entered by.Own) (λ _ _ _ _. refl) (λ _ _. refl) q k kinds site v [] false (λ r key args. no_way by.Own v e why r key site args) made f);
-      fresh = omega (arith, fresh, call_counts (is_entered by.Fresh) (λ _ _ _ _. refl) (λ _ _. refl) q k kinds site v [] false (λ r key args. no_way by.Fresh v e why r key site args) made f);
-      shared = call_counts (is_entered by.Shared) (λ _ _ _ _. refl) (λ _ _. refl) q k kinds site v [] false (λ r key args. no_way by.Shared v e why r key site args) made f;
+      decided = omega (arith, decided, call_counts is_call (λ _ _ _ _. refl) (λ _ _. refl) t q k kinds site v [] true (λ _ _ _. refl) made f);
+      own = omega (arith, own, call_counts (is_entered by.Own) (λ _ _ _ _. refl) (λ _ _. refl) t q k kinds site v [] false (λ r key args. no_way by.Own v e why r key site args) made f);
+      fresh = omega (arith, fresh, call_counts (is_entered by.Fresh) (λ _ _ _ _. refl) (λ _ _. refl) t q k kinds site v [] false (λ r key args. no_way by.Fresh v e why r key site args) made f);
+      shared = call_counts (is_entered by.Shared) (λ _ _ _ _. refl) (λ _ _. refl) t q k kinds site v [] false (λ r key args. no_way by.Shared v e why r key site args) made f;
     }
 
-full_tallies : (old new : State) (q k : ℕ) (kinds : _) (made : List Act) → call_of q k kinds made ≡ FullAt [] → new.decided ≡ old.decided → new.own ≡ old.own → new.fresh ≡ old.fresh → Tallies old new made
-full_tallies old new q k kinds made f decided own fresh =
+full_tallies : (t : Table) (old new : State) (q k : ℕ) (kinds : _) (made : List Act) → call_of t q k kinds made ≡ FullAt [] → new.decided ≡ old.decided → new.own ≡ old.own → new.fresh ≡ old.fresh → Tallies old new made
+full_tallies t old new q k kinds made f decided own fresh =
     record {
-      decided = omega (arith, decided, full_counts is_call (λ _ _ _ _. refl) (λ _ _. refl) q k kinds made f);
-      own = omega (arith, own, full_counts (is_entered by.Own) (λ _ _ _ _. refl) (λ _ _. refl) q k kinds made f);
-      fresh = omega (arith, fresh, full_counts (is_entered by.Fresh) (λ _ _ _ _. refl) (λ _ _. refl) q k kinds made f);
-      shared = full_counts (is_entered by.Shared) (λ _ _ _ _. refl) (λ _ _. refl) q k kinds made f;
+      decided = omega (arith, decided, full_counts is_call (λ _ _ _ _. refl) (λ _ _. refl) t q k kinds made f);
+      own = omega (arith, own, full_counts (is_entered by.Own) (λ _ _ _ _. refl) (λ _ _. refl) t q k kinds made f);
+      fresh = omega (arith, fresh, full_counts (is_entered by.Fresh) (λ _ _ _ _. refl) (λ _ _. refl) t q k kinds made f);
+      shared = full_counts (is_entered by.Shared) (λ _ _ _ _. refl) (λ _ _. refl) t q k kinds made f;
     }
 
 -- the call of the machine, as its journal tells it
@@ -145,7 +145,7 @@ module _ (known : List Name) (t : Table) (door : Fixed) (q : CallNo) (cl : Class
   run names block s = ev t names (call_in t names (room (frames_at frames old) - 1)) (tree_at t block) s
 
   -- what its acts are read as
-  read_call : (key : ℕ) (made journal : List Act) (r : Read) (rd : List (ℕ × Act)) → place known (cl.0, bytes_at t.names m) ≡ Some key → call_of q.0 key (kinds_of args) (made ++ journal) ≡ r
+  read_call : (key : ℕ) (made journal : List Act) (r : Read) (rd : List (ℕ × Act)) → place known (cl.0, bytes_at t.names m) ≡ Some key → call_of t q.0 key (kinds_of args) (made ++ journal) ≡ r
       → (names : List Name) → IsPrefix known names
       → calling (world t names) (room (frames_at frames old)) id.0 m (drop at old.operands.items) (st_of old rd (made ++ journal)) ≡ called t (run names) id.0 cl (drop (suc at) old.operands.items) r (st_of old rd (made ++ journal))
   read_call key made journal r rd found is names p =
@@ -155,7 +155,7 @@ module _ (known : List Name) (t : Table) (door : Fixed) (q : CallNo) (cl : Class
       let s : St = st_of old rd (made ++ journal) in
       ap (λ l. calling w rm id.0 m l s) (drop-cons old.operands.items at d lt)
       ∙ call_reads t names rm id.0 m (get_or old.operands.items at d) cl key vs s (some_room frames old few) rec (place-longer known names (cl.0, bytes_at t.names m) key p found)
-      ∙ ap (λ x. called t (run names) id.0 cl vs x s) (ap (λ ks. call_of (old.made + 1) key ks (made ++ journal)) (sym kinds) ∙ ap (λ n. call_of n key (kinds_of args) (made ++ journal)) (sym number) ∙ is)
+      ∙ ap (λ x. called t (run names) id.0 cl vs x s) (ap (λ ks. call_of t (old.made + 1) key ks (made ++ journal)) (sym kinds) ∙ ap (λ n. call_of t n key (kinds_of args) (made ++ journal)) (sym number) ∙ is)
 
   -- it enters, and its body is to begin
   pub call_enters : (f : Frame) (way : By) (b : Body) (was now : List Entry) (new : State) → f.q ≡ q → IsDecidedOf asks known was now f.key (verdict.Enter way) (Some f.body) f.held.items → (way ≡ by.Shared → ⊥) → body_at t (Some f.body) ≡ Some b
@@ -178,7 +178,7 @@ module _ (known : List Name) (t : Table) (door : Fixed) (q : CallNo) (cl : Class
             ∙ ap K (body_runs (run names) (old.made + 1) cl vs hs f.held.items b s dec.made journal refl h.holds.keys)
             ∙ ap (λ n. K (leave n (holds_of f.held.items) s.vars s.self (run names b.block.0 (record s { next = s.next + 1; read = s.read ++ tagged s.begun dec.made; journal = journal; vars = bindings (params_of b) vs; self = Some cl })))) (sym number ∙ ap (λ (x : CallNo). x.0) (sym same))
             ∙ ap (λ l. K (entered w (room fs) f cl b l (st_of (counted way old) (rd ++ tagged old.begun dec.made) journal))) (sym (drop-cons old.operands.items at d lt));
-        tallies = enter_tallies old q.0 f.key.0 (kinds_of args) (Some f.body) way hs dec.made (ap (call_of q.0 f.key.0 (kinds_of args)) (sym (append-nil dec.made)) ∙ dec.reads []) apart;
+        tallies = enter_tallies t old q.0 f.key.0 (kinds_of args) (Some f.body) way hs dec.made (ap (call_of t q.0 f.key.0 (kinds_of args)) (sym (append-nil dec.made)) ∙ dec.reads []) apart;
       })
 
   -- it was refused
@@ -190,8 +190,8 @@ module _ (known : List Name) (t : Table) (door : Fixed) (q : CallNo) (cl : Class
       let hs = stands door.caller q.0 h.mid in
       let fr = frees q h.held in
       let made : List Act = dec.made ++ fr in
-      let reads : (l : List Act) → call_of q.0 h.key.0 (kinds_of args) (made ++ l) ≡ Called h.site v [] l =
-      λ l. ap (call_of q.0 h.key.0 (kinds_of args)) (append_assoc dec.made fr l) ∙ dec.reads (fr ++ l) ∙ gives_back q h.site v e hs h.held l why h.decided.holds.keys in
+      let reads : (l : List Act) → call_of t q.0 h.key.0 (kinds_of args) (made ++ l) ≡ Called h.site v [] l =
+      λ l. ap (call_of t q.0 h.key.0 (kinds_of args)) (append_assoc dec.made fr l) ∙ dec.reads (fr ++ l) ∙ gives_back q h.site v e hs h.held l why h.decided.holds.keys in
       let mid : State = record old { operands = ops; made = old.made + 1; decided = old.decided + 1; stop = e; at = id } in
       rw (is, mv) (record {
         more = made;
@@ -206,7 +206,7 @@ module _ (known : List Name) (t : Table) (door : Fixed) (q : CallNo) (cl : Class
             ∙ ap K (decided_stops id.0 (run_body (run names) (old.made + 1) cl vs [] (body_at t h.site)) v e (numbered (read_to journal s)) why)
             ∙ ap (λ l. K (Halt e id.0 (record s { next = s.next + 1; read = rd ++ tagged old.begun l; journal = journal }))) (before_rest made journal)
             ∙ ap (λ l. resume w ks (reverse l) fs (Halt e id.0 (st_of mid (rd ++ tagged old.begun made) journal))) (sym cut);
-        tallies = refuse_tallies old mid q.0 h.key.0 (kinds_of args) h.site v e made why (ap (call_of q.0 h.key.0 (kinds_of args)) (sym (append-nil made)) ∙ reads []) refl refl refl;
+        tallies = refuse_tallies t old mid q.0 h.key.0 (kinds_of args) h.site v e made why (ap (call_of t q.0 h.key.0 (kinds_of args)) (sym (append-nil made)) ∙ reads []) refl refl refl;
       })
 
   -- it found the list of names full while its body was checked
@@ -226,7 +226,7 @@ module _ (known : List Name) (t : Table) (door : Fixed) (q : CallNo) (cl : Class
             ap K (read_call h.key.0 h.made journal (FullAt journal) rd h.named (h.reads journal) names p)
             ∙ ap (λ l. K (Halt stop.Full id.0 (record s { next = s.next + 1; read = rd ++ tagged old.begun l; journal = journal }))) (before_rest h.made journal)
             ∙ ap (λ l. resume w ks (reverse l) fs (Halt stop.Full id.0 (st_of mid (rd ++ tagged old.begun h.made) journal))) (sym cut);
-        tallies = full_tallies old mid q.0 h.key.0 (kinds_of args) h.made (ap (call_of q.0 h.key.0 (kinds_of args)) (sym (append-nil h.made)) ∙ h.reads []) refl refl refl;
+        tallies = full_tallies t old mid q.0 h.key.0 (kinds_of args) h.made (ap (call_of t q.0 h.key.0 (kinds_of args)) (sym (append-nil h.made)) ∙ h.reads []) refl refl refl;
       })
 
 -- a body begins in a frame of its own

@@ -249,7 +249,7 @@ shares_entered a names asked past now cache f way old new d own h = each way d h
         → IsDecidedOf a names past now f.key (verdict.Enter way) (Some f.body) f.held.items → collected new ≡ collected old → Shares a.t names a.door.caller past now old new
     other way no_more each d left =
         let dec = decision_of a names past now f.key (verdict.Enter way) (Some f.body) f.held.items d in
-        let none = call_counts (is_entered by.Fresh) (λ _ _ _ _. refl) (λ _ _. refl) a.q.0 f.key.0 (kinds_of a.args) (Some f.body) (verdict.Enter way) (stands a.door.caller a.q.0 now) false each dec.made (ap (call_of a.q.0 f.key.0 (kinds_of a.args)) (sym (append-nil dec.made)) ∙ dec.reads []) in
+        let none = call_counts (is_entered by.Fresh) (λ _ _ _ _. refl) (λ _ _. refl) a.t a.q.0 f.key.0 (kinds_of a.args) (Some f.body) (verdict.Enter way) (stands a.door.caller a.q.0 now) false each dec.made (ap (call_of a.t a.q.0 f.key.0 (kinds_of a.args)) (sym (append-nil dec.made)) ∙ dec.reads []) in
         record { made = dec.made; grows = dec.grows; gathers = subst (λ (o : Option (List Derivation)). Gathers a.t names (acts a.door.caller past) dec.made (collected old) o) (sym left) (gathers_none a.t names (acts a.door.caller past) dec.made (collected old) none) }
 
     each : (way : By) → IsDecidedOf a names past now f.key (verdict.Enter way) (Some f.body) f.held.items → Collects a.t names (stands a.door.caller a.q.0 now) cache old new (Ok (entered.Frame f way)) → Shares a.t names a.door.caller past now old new
@@ -258,7 +258,7 @@ shares_entered a names asked past now cache f way old new d own h = each way d h
     each by.Fresh d h =
         let dec = decision_of a names past now f.key (verdict.Enter by.Fresh) (Some f.body) f.held.items d in
         let call : Act = Call a.q f.key (Some f.body) a.args (verdict.Enter by.Fresh) in
-        let one = call_counts (is_entered by.Fresh) (λ _ _ _ _. refl) (λ _ _. refl) a.q.0 f.key.0 (kinds_of a.args) (Some f.body) (verdict.Enter by.Fresh) (stands a.door.caller a.q.0 now) true (λ _ _ _. refl) dec.made (ap (call_of a.q.0 f.key.0 (kinds_of a.args)) (sym (append-nil dec.made)) ∙ dec.reads []) in
+        let one = call_counts (is_entered by.Fresh) (λ _ _ _ _. refl) (λ _ _. refl) a.t a.q.0 f.key.0 (kinds_of a.args) (Some f.body) (verdict.Enter by.Fresh) (stands a.door.caller a.q.0 now) true (λ _ _ _. refl) dec.made (ap (call_of a.t a.q.0 f.key.0 (kinds_of a.args)) (sym (append-nil dec.made)) ∙ dec.reads []) in
         let last = last_call a names past now f.key (verdict.Enter by.Fresh) (Some f.body) f.held.items d in
         let some : dec.made ≡ [] → ⊥ = λ e. let n = ap (count_by (is_entered by.Fresh)) e in absurd (omega (arith, n, one)) in
         let s = snoc_split (acts a.door.caller past) dec.made (acts a.door.caller last.0) call (sym dec.grows ∙ last.1) some in

@@ -85,4 +85,4 @@ unfoldable pub call_in : Table → List Name → (room : ℕ) → Calls
 call_in t names zero id r m args s = received id (receiver r) s (λ c. Halt stop.Deep id s)
 call_in t names (suc room) id r m args s = received id (receiver r) s (λ c.
     keyed names id (c.0, bytes_at t.names m) s (λ key.
-    called t (λ block s. ev t names (call_in t names room) (tree_at t block) s) id c args (call_of s.next key (map kind_of args) s.journal) s))
+    called t (λ block s. ev t names (call_in t names room) (tree_at t block) s) id c args (call_of t s.next key (map kind_of args) s.journal) s))

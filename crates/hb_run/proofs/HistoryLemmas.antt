@@ -168,7 +168,7 @@ key-below t names limit log rules legal before after e is =
     go (WornType key) r f = r.named
     go (Define key site) r f = r.named
     go (WornDef key) r f = r.named
-    go (Call q key site args verdict) r f = place-below names r.row.name key.0 r.row.is
+    go (Call q key site args verdict) r f = place-below names r.row.0.name key.0 r.row.0.is
 
 -- ── the history ──
 

@@ -49,8 +49,8 @@ Enters = (t : Table) (types : Types) (class : ℕ) (b : Option Body) (m : Option
 -- an act that fits the row of a Call enters rightly
 pub enters-rightly : Enters → (t : Table) (names : List Name) (c : ℕ) (before : List Entry) (a : Act) → FitsCall t names c before a → EntersRightly t names before a
 enters-rightly law t names c before (Call q key site args v) row =
-    let same = law t (types_in t names before) row.name.0 (body_at t site) (type_of_key t before key.0) (kinds_of args) in
-    (row.name, row.is, row.defined, ((λ enters. same.0 (sym row.rules ∙ enters-fresh v enters)), (λ reaches. fresh-enters v (row.rules ∙ same.1 reaches))))
+    let same = law t (types_in t names before) row.0.name.0 (body_at t site) (type_of_key t before key.0) (kinds_of args) in
+    (row.0.name, row.0.is, row.0.defined, ((λ enters. same.0 (sym row.0.rules ∙ enters-fresh v enters)), (λ reaches. fresh-enters v (row.0.rules ∙ same.1 reaches))))
 enters-rightly law t names c before (Hold q key ty changes) row = tt
 enters-rightly law t names c before (Free q key) row = tt
 enters-rightly law t names c before (Retype key site) row = tt

@@ -123,7 +123,7 @@ module _ (t : Table) (names : List Name) (limit : ℕ) (log : List Entry) (c : �
       own = type_of_key t before j.0
 
       row : RowAt t names before (c, p.0) (d.0, m) j.0 site kinds v
-      row = row_at t names before (c, p.0) (d.0, m) j.0 site kinds (kinds_of args) v (rows before after (entry c (Call p j site args v)) is) there same
+      row = row_at t names before (c, p.0) (d.0, m) j.0 site kinds (kinds_of args) v (rows before after (entry c (Call p j site args v)) is).0 there same
 
       typed : types_in t names before (d.0, m) ≡ own
       typed = key_type t names before (d.0, m) j.0 there
@@ -179,9 +179,9 @@ module _ (t : Table) (names : List Name) (limit : ℕ) (log : List Entry) (c : �
   unfolding call_in
   call_ends room ih fs pre seg since id d m vs s cut own live P h = go (place names (name_of t (d.0, m))) refl
     where
-      go : (o : Option ℕ) → place names (name_of t (d.0, m)) ≡ o → P (with_key names id o s (λ key. called t (λ block s. ev t names (call_in t names room) (tree_at t block) s) id d vs (call_of s.next key (map kind_of vs) s.journal) s))
+      go : (o : Option ℕ) → place names (name_of t (d.0, m)) ≡ o → P (with_key names id o s (λ key. called t (λ block s. ev t names (call_in t names room) (tree_at t block) s) id d vs (call_of t s.next key (map kind_of vs) s.journal) s))
       go None e = choose_full P (nat_eq (length names) NAMES_MAX) id s h.lost (h.halts stop.Full s tt)
-      go (Some key) e = called_ends room ih fs pre seg since id d m key vs s cut own live e P h (call_of s.next key (map kind_of vs) s.journal) (call_of_reads s.next key (map kind_of vs) s.journal)
+      go (Some key) e = called_ends room ih fs pre seg since id d m key vs s cut own live e P h (call_of t s.next key (map kind_of vs) s.journal) (call_of_reads t s.next key (map kind_of vs) s.journal)
 
   ends_sound : (Inv : Rest) (me : ℕ) (G : Variables) (r : Ty) (s : St) (a : Answer) → Fits G s.vars → s.self ≡ Some (record { 0 = me }) → Ends Inv r s.vars s.self a → Sound Inv me G r a
   ends_sound Inv me G r s Lost f e h = tt

@@ -8,6 +8,7 @@ use Rattle.hb_types.specs.declared.ids.BodySite.{BodySite}
 use Rattle.hb_types.specs.declared.types.Ty.{Ty}
 use Rattle.hb_types.proofs.Below.{same_ty_is}
 use Rattle.hb_deriv.proofs.JudgementLemmas.{and_both}
+use Rattle.hb_tree.specs.Table.{Table}
 use Rattle.hb_tables.specs.declared.entry.ArgKinds.{ArgKinds}
 use Rattle.hb_tables.specs.declared.entry.By.{By}
 use Rattle.hb_tables.specs.declared.entry.Verdict.{Verdict}
@@ -17,7 +18,7 @@ use Rattle.hb_tables.specs.declared.entry.Act.TheVariants.{Hold, Free, Retype, B
 use Rattle.hb_tables.specs.Frames.{frees, StaysLive}
 use Rattle.hb_tables.specs.Standing.{Stand, all_but}
 use Rattle.hb_tables.specs.Rows.{kinds_of}
-use Rattle.hb_call.specs.Reading.{Read, Called, FullAt, Lost, freed, refused_at, full_at, called, same_kinds, decision, call_of}
+use Rattle.hb_call.specs.Reading.{Read, Called, FullAt, Lost, freed, refused_at, full_at, called, same_kinds, decision, call_of, takes_at}
 
 -- A Call was read behind acts that give back nothing but keys of this call. Where it enters, nothing behind it was read.
 pub record CallRead (q k : ℕ) (kinds : List Ty) (l : List Act) (site : Option BodySite) (v : Verdict) (rest : List Act) : Type 0 where
@@ -94,31 +95,31 @@ call_reads q k kinds p j site args v held l pq jk same = by v
     by verdict.BadArgs = refused verdict.BadArgs (λ way e. cc) (freed q held l)
     by (verdict.IllTyped f) = refused (verdict.IllTyped f) (λ way e. cc) (freed q held l)
 
-decision_reads : (q k : ℕ) (kinds : List Ty) (held : List Stand) (l : List Act) → HasRead q k kinds l (decision q k kinds held l)
+decision_reads : (fits : Bool) (q k : ℕ) (kinds : List Ty) (held : List Stand) (l : List Act) → HasRead q k kinds l (decision fits q k kinds held l)
 unfolding HasRead
-decision_reads q k kinds held [] = tt
-decision_reads q k kinds held (Hold p j ty n ∷ l) = read_if q k kinds (Hold p j ty n ∷ l) (nat_eq p.0 q) _ Lost (λ e. read_behind q k kinds (Hold p j ty n) l _ (λ m ne. refl) (decision_reads q k kinds (held ++ record { key = j.0; ty = ty; changes = n } ∷ []) l)) tt
-decision_reads q k kinds held (Free p j ∷ l) = read_if q k kinds (Free p j ∷ l) (nat_eq p.0 q) _ Lost
-    (λ e. read_if q k kinds (Free p j ∷ l) (nat_eq j.0 k) _ _ (λ _. full_reads q k kinds (Free p j ∷ l) (freed q held (Free p j ∷ l))) (read_behind q k kinds (Free p j) l _ (other_free q p j e) (decision_reads q k kinds (all_but j.0 held) l))) tt
-decision_reads q k kinds held (Call p j site args v ∷ l) = read_if q k kinds (Call p j site args v ∷ l) (nat_eq p.0 q && nat_eq j.0 k && same_kinds kinds (kinds_of args)) (called q site v held l) Lost
+decision_reads fits q k kinds held [] = tt
+decision_reads fits q k kinds held (Hold p j ty n ∷ l) = read_if q k kinds (Hold p j ty n ∷ l) (fits && nat_eq p.0 q) _ Lost (λ e. read_behind q k kinds (Hold p j ty n) l _ (λ m ne. refl) (decision_reads fits q k kinds (held ++ record { key = j.0; ty = ty; changes = n } ∷ []) l)) tt
+decision_reads fits q k kinds held (Free p j ∷ l) = read_if q k kinds (Free p j ∷ l) (fits && nat_eq p.0 q) _ Lost
+    (λ e. read_if q k kinds (Free p j ∷ l) (nat_eq j.0 k) _ _ (λ _. full_reads q k kinds (Free p j ∷ l) (freed q held (Free p j ∷ l))) (read_behind q k kinds (Free p j) l _ (other_free q p j (and_both _ _ e).1) (decision_reads fits q k kinds (all_but j.0 held) l))) tt
+decision_reads fits q k kinds held (Call p j site args v ∷ l) = read_if q k kinds (Call p j site args v ∷ l) (nat_eq p.0 q && nat_eq j.0 k && same_kinds kinds (kinds_of args)) (called q site v held l) Lost
     (λ e. let a = and_both _ _ e in let b = and_both _ _ a.0 in call_reads q k kinds p j site args v held l (eqb-true p.0 q b.0) (eqb-true j.0 k b.1) (kinds_same kinds (kinds_of args) a.1)) tt
-decision_reads q k kinds held (Retype j site ∷ l) = tt
-decision_reads q k kinds held (Busy j pins ∷ l) = tt
-decision_reads q k kinds held (WornType j ∷ l) = tt
-decision_reads q k kinds held (Define j site ∷ l) = tt
-decision_reads q k kinds held (WornDef j ∷ l) = tt
+decision_reads fits q k kinds held (Retype j site ∷ l) = tt
+decision_reads fits q k kinds held (Busy j pins ∷ l) = tt
+decision_reads fits q k kinds held (WornType j ∷ l) = tt
+decision_reads fits q k kinds held (Define j site ∷ l) = tt
+decision_reads fits q k kinds held (WornDef j ∷ l) = tt
 
-pub call_of_reads : (q k : ℕ) (kinds : List Ty) (l : List Act) → HasRead q k kinds l (call_of q k kinds l)
+pub call_of_reads : (t : Table) (q k : ℕ) (kinds : List Ty) (l : List Act) → HasRead q k kinds l (call_of t q k kinds l)
 unfolding HasRead
-call_of_reads q k kinds [] = tt
-call_of_reads q k kinds (Hold p j ty n ∷ l) = read_if q k kinds (Hold p j ty n ∷ l) (nat_eq j.0 k) _ Lost (λ e. decision_reads q k kinds [] (Hold p j ty n ∷ l)) tt
-call_of_reads q k kinds (Free p j ∷ l) = tt
-call_of_reads q k kinds (Call p j site args v ∷ l) = tt
-call_of_reads q k kinds (Retype j site ∷ l) = tt
-call_of_reads q k kinds (Busy j pins ∷ l) = tt
-call_of_reads q k kinds (WornType j ∷ l) = tt
-call_of_reads q k kinds (Define j site ∷ l) = tt
-call_of_reads q k kinds (WornDef j ∷ l) = tt
+call_of_reads t q k kinds [] = tt
+call_of_reads t q k kinds (Hold p j ty n ∷ l) = read_if q k kinds (Hold p j ty n ∷ l) (nat_eq p.0 q && nat_eq j.0 k) _ Lost (λ e. read_behind q k kinds (Hold p j ty n) l _ (λ m ne. refl) (decision_reads (takes_at t ty kinds) q k kinds (record { key = j.0; ty = ty; changes = n } ∷ []) l)) tt
+call_of_reads t q k kinds (Free p j ∷ l) = tt
+call_of_reads t q k kinds (Call p j site args v ∷ l) = tt
+call_of_reads t q k kinds (Retype j site ∷ l) = tt
+call_of_reads t q k kinds (Busy j pins ∷ l) = tt
+call_of_reads t q k kinds (WornType j ∷ l) = tt
+call_of_reads t q k kinds (Define j site ∷ l) = tt
+call_of_reads t q k kinds (WornDef j ∷ l) = tt
 
 -- Frees of one call were read, which free no other
 pub record FreesRead (q : ℕ) (l rest : List Act) : Type 0 where

@@ -1,7 +1,9 @@
 -- A Call's row: what stands in it is the verdict in the tables before it.
-use Rattle.std.specs.Prelude.{◌≡◌, ℕ, Option, Some, None, List, ◌∷◌, map, take, slice_get, Contains}
+use Rattle.std.specs.Prelude.{◌≡◌, ℕ, ◌-◌, Option, Some, None, List, ◌∷◌, ◌++◌, length, map, replicate, take, slice_get, Contains}
 use Rattle.std.specs.Option.{option_map}
 use Rattle.hb_types.specs.declared.types.Ty.{Ty}
+use Rattle.hb_types.specs.declared.types.Ty.TheVariants as ty
+use Rattle.hb_types.specs.declared.types.TheConstants.{PARAMS_MAX}
 use Rattle.hb_types.specs.declared.types.MethodTy.{MethodTy}
 use Rattle.hb_types.specs.declared.ids.BodySite.{BodySite}
 use Rattle.hb_tree.specs.declared.parts.Body.{Body}
@@ -44,6 +46,14 @@ type_of_key t log k = type_at (sites_of t) (site_in log (Some k))
 abbrev pub kinds_of : ArgKinds → List Ty
 kinds_of args = take args.count args.kinds
 
+-- these kinds, and behind them Nil
+abbrev pub fill : List Ty → ArgKinds
+fill kinds = record { count = length kinds; kinds = kinds ++ replicate (PARAMS_MAX - length kinds) ty.Nil }
+
+-- what stands past the kinds that count is Nil
+abbrev pub IsFilled : ArgKinds → Type 0
+IsFilled args = args ≡ fill (kinds_of args)
+
 -- what a fresh check of a call comes to behind a list
 abbrev pub verdict_in : Table → List Name → List Entry → Name → (key : ℕ) → Option BodySite → List Ty → Verdict
 verdict_in t names log name key site kinds = verdict_of t (types_in t names log) name.0 (body_at t site) (type_of_key t log key) kinds
@@ -65,8 +75,9 @@ pub record IsDecided (t : Table) (names : List Name) (log : List Entry) (x : ℕ
   pub held : (p : Name) → Contains (needs_in t names log name key site kinds) p → HoldsName names log x p
   pub only : (j : ℕ) → times x (spot j log).calls ≡ 1 → (p : Name) × Contains (needs_in t names log name key site kinds) p × (place names p ≡ Some j)
 
+-- a Call is decided, and tells nothing but its arguments' kinds
 abbrev pub FitsCall : Table → List Name → ℕ → List Entry → Act → Type 0
-FitsCall t names c log (Call q key site args v) = IsDecided t names log (c, q.0) key.0 site (kinds_of args) v
+FitsCall t names c log (Call q key site args v) = IsDecided t names log (c, q.0) key.0 site (kinds_of args) v × IsFilled args
 FitsCall t names c log (Hold q key ty changes) = Unit {0}
 FitsCall t names c log (Free q key) = Unit {0}
 FitsCall t names c log (Retype key site) = Unit {0}

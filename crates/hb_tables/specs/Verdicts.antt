@@ -1,5 +1,5 @@
 -- The verdict on a call, and the keys on which it rests.
-use Rattle.std.specs.Prelude.{◌≡◌, ℕ, List, [], length, Option, Some, None, Ok, Err, Bool, true, nat_eq, ◌&&◌, if◌then◌else◌}
+use Rattle.std.specs.Prelude.{◌≡◌, ℕ, List, [], length, Option, Some, None, Ok, Err, Bool, true, false, nat_eq, ◌&&◌, if◌then◌else◌}
 use Rattle.hb_types.specs.declared.types.Ty.{Ty}
 use Rattle.hb_types.specs.declared.types.MethodTy.{MethodTy}
 use Rattle.hb_types.specs.Types as types
@@ -17,6 +17,11 @@ use Rattle.hb_tables.specs.declared.entry.By.TheVariants as by
 -- a method of this type may be called with arguments of these kinds
 abbrev pub takes : MethodTy → List Ty → Bool
 takes m kinds = nat_eq (length kinds) m.count && all_below kinds (types.params_of m)
+
+-- there is a type, and a method of it may be called with arguments of these kinds
+abbrev pub typed_takes : Option MethodTy → List Ty → Bool
+typed_takes None kinds = false
+typed_takes (Some m) kinds = takes m kinds
 
 -- a body of the program against a type, where self is of a class
 abbrev pub subject : Table → ℕ → Body → MethodTy → Subject

@@ -6,14 +6,13 @@ use Rattle.hb_names.specs.Names.{Differ, place, with_name}
 use Rattle.hb_names.specs.declared.names.TheConstants.{NAMES_MAX}
 use Rattle.hb_names.proofs.NameLemmas.{place-longer}
 use Rattle.hb_tables.specs.Answers.{Fixed}
-use Rattle.hb_tables.specs.Rows.{kinds_of}
 use Rattle.hb_tables.specs.History.{Adds, IsLegal}
 use Rattle.hb_tables.specs.declared.entry.Act.TheVariants.{Hold}
 use Rattle.hb_call.specs.declared.frame.CallFail.{CallFail}
 use Rattle.hb_call.specs.declared.frame.CallFail.TheVariants as fail
 use Rattle.hb_call.specs.declared.frame.Entered.{Entered}
 use Rattle.hb_call.specs.declared.ruling.Ended.{Ended}
-use Rattle.hb_call.specs.Calling.{Begun, Given, IsAskedFor}
+use Rattle.hb_call.specs.Calling.{Given, IsAskedFor}
 use Rattle.hb_call.specs.Entering.{Asks, Enters, IsEndedWell, IsTold, IsUndone, MarksOnce, MayUndo, entered_of}
 use Rattle.hb_call.specs.Growth.{Grown}
 use Rattle.hb_call.specs.GrowthLaws.{grown_itself, grown_on, prefix_itself, prefix_more, with_rules}
@@ -21,7 +20,7 @@ use Rattle.hb_call.specs.Held.{stands}
 use Rattle.hb_call.specs.OwnCache.{IsOwnCache}
 use Rattle.hb_call.specs.OwnLaws.{own_named}
 use Rattle.hb_call.specs.Sharing.{Collects}
-use Rattle.hb_call.proofs.BegunLemmas.{begun_first, begun_learns}
+use Rattle.hb_call.proofs.BegunLemmas.{begun_started}
 use Rattle.hb_call.proofs.DecidingLemmas.{learned}
 use Rattle.hb_call.proofs.EnteredLemmas.{ended_marks, kept_enters, kept_framed, kept_marks, kept_others, kept_own, kept_told, may_undo, own_moved, told_back}
 use Rattle.hb_call.proofs.EnteringLemmas.{bytes_found, enters}
@@ -102,12 +101,11 @@ returns-in_err-ended-clause-entered g c =
     let later : IsLegal door.limit look = rw (c.hold-own.ensures.fixed, c.reserve.ensures.fixed) at c.look-look.ensures.legal in
     let fixed : g.D.Desk.fixed c.look-look.new.self ≡ door = c.look-look.ensures.fixed ∙ c.hold-own.ensures.fixed ∙ c.reserve.ensures.fixed in
     let asks : Asks = record { t = c.args.prog.now; door = door; q = c.args.q; class = c.args.class; bytes = bytes_at c.args.prog.now.names c.args.name.0; args = c.args.args } in
-    let begun = begun_learns door.caller c.args.q key (kinds_of c.args.args) old mid look seen.0 (begun_first door.caller c.args.q key (kinds_of c.args.args) own.ty own.changes old mid adds c.requires.unused) in
     let last = g.N.Names.known c.finish.new.self.names.now in
     let found : place last (c.args.class.0, bytes_at c.args.prog.now.names c.args.name.0) ≡ Some key.0 =
     rw (bytes_found c.args.prog.now.names c.args.name.0 c.name.result.now c.name.ensures.value) (place-longer known last (c.args.class.0, c.name.result.now) key.0 c.finish.ensures.went.named c.in_ok-key.ensures.key) in
     let end = g.D.Desk.front c.finish.new.self.desk.now in let r = c.from_residual-in_err-ended.result in let cause = c.in_err-ended.field-0.0 in
-    let done = enters asks _ refl fixed refl refl refl last found old look (subst (λ (d : Fixed). Begun d.caller c.args.q key (kinds_of c.args.args) old look) (sym fixed) begun) end (Err cause) c.in_err-ended.ensures.finished in
+    let done = enters asks _ refl fixed refl refl refl last found old look (begun_started _ door fixed old mid look adds c.requires.unused seen.0) end (Err cause) c.in_err-ended.ensures.finished in
     subst (λ (d : g.row.D.Denot). Enters asks (g.N.Names.known c.names-1.given.0) old (g.D.Desk.front d) r) desk
     (subst (λ (m : g.row.N.Denot). Enters asks (g.N.Names.known m) old end r) names
     (as_err (λ (x : Result Entered CallFail). Enters asks last old end x) r cause c.from_residual-in_err-ended.ensures.1 done))
@@ -192,11 +190,10 @@ returns-clause-entered g c =
     subst (λ (d : Fixed). IfErr c.keep.result (λ x. (x ≡ fail.NoMemory) × IsUndone d.caller end new e)) ending
     (subst (λ (d : g.row.D.Denot). IfErr c.keep.result (λ x. (x ≡ fail.NoMemory) × IsUndone (g.D.Desk.fixed d).caller (g.D.Desk.front d) new e)) (sym desk) c.keep.ensures.undone) in
     let asks : Asks = record { t = c.args.prog.now; door = door; q = c.args.q; class = c.args.class; bytes = bytes_at c.args.prog.now.names c.args.name.0; args = c.args.args } in
-    let begun = begun_learns door.caller c.args.q key (kinds_of c.args.args) old mid look seen.0 (begun_first door.caller c.args.q key (kinds_of c.args.args) own.ty own.changes old mid adds c.requires.unused) in
     let last = g.N.Names.known c.finish.new.self.names.now in
     let found : place last (c.args.class.0, bytes_at c.args.prog.now.names c.args.name.0) ≡ Some key.0 =
     rw (bytes_found c.args.prog.now.names c.args.name.0 c.name.result.now c.name.ensures.value) (place-longer known last (c.args.class.0, c.name.result.now) key.0 c.finish.ensures.went.named c.in_ok-key.ensures.key) in
-    let decided = enters asks _ refl fixed refl refl refl last found old look (subst (λ (d : Fixed). Begun d.caller c.args.q key (kinds_of c.args.args) old look) (sym fixed) begun) end (Ok e) c.in_ok-ended.ensures.finished in
+    let decided = enters asks _ refl fixed refl refl refl last found old look (begun_started _ door fixed old mid look adds c.requires.unused seen.0) end (Ok e) c.in_ok-ended.ensures.finished in
     subst (λ (m : g.row.N.Denot). Enters asks (g.N.Names.known m) old new c.keep.result) names (kept_enters asks last old end new e well c.keep.result done undone decided)
 
 pub returns-clause-framed : goal.returns-clause-framed

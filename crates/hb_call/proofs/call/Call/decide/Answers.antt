@@ -1,13 +1,13 @@
-use Rattle.std.proofs.Common.{◌≡◌, ◌++◌, Ok, Some, sym, ap, ◌∙◌, subst}
+use Rattle.std.proofs.Common.{refl, ◌≡◌, ◌++◌, Ok, Some, sym, ap, ◌∙◌, subst}
 use Rattle.hb_types.specs.declared.ids.KeyId.{KeyId}
 use Rattle.hb_names.specs.Names.{place}
 use Rattle.hb_names.proofs.NameLemmas.{place-longer}
 use Rattle.hb_tables.specs.Answers.{Fixed, IsLookAt}
 use Rattle.hb_tables.specs.History.{IsLegal}
-use Rattle.hb_tables.specs.Rows.{kinds_of}
+use Rattle.hb_tables.specs.Rows.{IsFilled}
 use Rattle.hb_call.specs.Alike.{alike_itself, alike_on, fits_since_on}
 use Rattle.hb_call.specs.GrowthLaws.{each_itself, with_rules}
-use Rattle.hb_call.proofs.AgainLemmas.{alike_again, looked_again, may_again, rules_again}
+use Rattle.hb_call.proofs.AgainLemmas.{begun_goes, unfit_again, unfit_ruled, alike_again, looked_again, may_again, rules_again}
 use Rattle.hb_call.specs.Calling.{Given, Goes, IsArgKinds}
 use Rattle.hb_call.specs.Seen.{given_of, moment_of}
 use Rattle.hb_call.proofs.HeldLemmas.{prefix_on}
@@ -38,6 +38,7 @@ loop-ruling-init g c = record {
   own = c.requires.own;
   named = c.requires.named;
   looked = c.requires.looked;
+  unfit = λ e. refl;
   rules = each_itself _ _ _;
   alike = alike_itself _ _;
   names = g.N.Names.alike_itself c.args.self.now.names.now;
@@ -130,7 +131,8 @@ loop-ruling-preserved g c =
       few = on.goes.went.few i.few;
       own = subst (λ (h : Given). IsOwnCache h.t known (g.N.Names.asked o.names.now) h.door.caller (g.D.Desk.front o.desk.now) h.cache) on.same (goes_own (given_of g.D.Desk.fixed w) was end w.cache.now on.goes i.own);
       named = (i.named.0, subst (λ (h : Given). place known (h.class.0, i.named.0) ≡ Some h.key.0) on.same (place-longer _ known (w.class.0, i.named.0) w.key.0 on.goes.went.named i.named.1));
-      looked = looked_again (given_of g.D.Desk.fixed w) given was mid new c.loop-ruling.look c.in-Err.newer c.ruling.ensures.alike c.ruling.ensures.live d.0 legal door same (given_of g.D.Desk.fixed o) end c.retreat.ensures.alike may d.1 c.retreat.ensures.freed.0 c.retreat.ensures.freed.1;
+      looked = looked_again (given_of g.D.Desk.fixed w) given was mid new c.loop-ruling.look c.in-Err.newer c.ruling.ensures.alike c.ruling.ensures.live d.0 legal door same (given_of g.D.Desk.fixed o) end c.retreat.ensures.alike may d.1 c.retreat.ensures.freed.0 c.retreat.ensures.freed.2;
+      unfit = unfit_again (given_of g.D.Desk.fixed w) given was mid new c.ruling.ensures.alike s.held.now.items c.ruling.ensures.unfit d.0 door same end c.retreat.ensures.freed (given_of g.D.Desk.fixed c.args.self.now) (moment_of g.D.Desk.front g.N.Names.known g.N.Names.asked c.args.self.now) i.alike.same i.unfit;
       rules = rules_again (given_of g.D.Desk.fixed w) given was mid new c.loop-ruling.look c.in-Err.newer c.ruling.ensures.alike c.ruling.ensures.live d.0 legal door same (given_of g.D.Desk.fixed o) end c.retreat.ensures.alike (given_of g.D.Desk.fixed c.args.self.now) (moment_of g.D.Desk.front g.N.Names.known g.N.Names.asked c.args.self.now) i.alike.same i.rules c.ruling.ensures.rules c.retreat.ensures.rules;
       alike = alike_on _ _ _ _ _ _ i.alike on;
       names = g.N.Names.alike_on _ _ _ i.names (subst (λ n. g.N.Names.alike w.names.now n) (sym (ap (λ n. n.now) c.retreat.ensures.names)) c.ruling.ensures.names);
@@ -155,7 +157,8 @@ loop-ruling-preserved-in-Err g c =
       few = on.goes.went.few i.few;
       own = subst (λ (h : Given). IsOwnCache h.t known (g.N.Names.asked o.names.now) h.door.caller (g.D.Desk.front o.desk.now) h.cache) on.same (goes_own (given_of g.D.Desk.fixed w) was end w.cache.now on.goes i.own);
       named = (i.named.0, subst (λ (h : Given). place known (h.class.0, i.named.0) ≡ Some h.key.0) on.same (place-longer _ known (w.class.0, i.named.0) w.key.0 on.goes.went.named i.named.1));
-      looked = looked_again (given_of g.D.Desk.fixed w) given was mid new c.loop-ruling.look c.in-Err.newer c.ruling.ensures.alike c.ruling.ensures.live d.0 legal door same (given_of g.D.Desk.fixed o) end c.retreat.ensures.alike may d.1 c.retreat.ensures.freed.0 c.retreat.ensures.freed.1;
+      looked = looked_again (given_of g.D.Desk.fixed w) given was mid new c.loop-ruling.look c.in-Err.newer c.ruling.ensures.alike c.ruling.ensures.live d.0 legal door same (given_of g.D.Desk.fixed o) end c.retreat.ensures.alike may d.1 c.retreat.ensures.freed.0 c.retreat.ensures.freed.2;
+      unfit = unfit_again (given_of g.D.Desk.fixed w) given was mid new c.ruling.ensures.alike s.held.now.items c.ruling.ensures.unfit d.0 door same end c.retreat.ensures.freed (given_of g.D.Desk.fixed c.args.self.now) (moment_of g.D.Desk.front g.N.Names.known g.N.Names.asked c.args.self.now) i.alike.same i.unfit;
       rules = rules_again (given_of g.D.Desk.fixed w) given was mid new c.loop-ruling.look c.in-Err.newer c.ruling.ensures.alike c.ruling.ensures.live d.0 legal door same (given_of g.D.Desk.fixed o) end c.retreat.ensures.alike (given_of g.D.Desk.fixed c.args.self.now) (moment_of g.D.Desk.front g.N.Names.known g.N.Names.asked c.args.self.now) i.alike.same i.rules c.ruling.ensures.rules c.retreat.ensures.rules;
       alike = alike_on _ _ _ _ _ _ i.alike on;
       names = g.N.Names.alike_on _ _ _ i.names (subst (λ n. g.N.Names.alike w.names.now n) (sym (ap (λ n. n.now) c.retreat.ensures.names)) c.ruling.ensures.names);
@@ -200,7 +203,8 @@ returns-in-Ok-clause-decided g c =
     let here : place known (given.class.0, named.0) ≡ Some given.key.0 = subst (λ (h : Given). place known (h.class.0, named.0) ≡ Some h.key.0) a.same (place-longer _ known (w.class.0, named.0) w.key.0 a.goes.went.named named.1) in
     let own = subst (λ (h : Given). IsOwnCache h.t known asked h.door.caller log h.cache) a.same (goes_own (given_of g.D.Desk.fixed w) (moment_of g.D.Desk.front g.N.Names.known g.N.Names.asked w) (moment_of g.D.Desk.front g.N.Names.known g.N.Names.asked s) w.cache.now a.goes c.loop-ruling.invariant.own) in
     let goes = subst (λ (h : Given). Goes h (moment_of g.D.Desk.front g.N.Names.known g.N.Names.asked c.args.self.now) (moment_of g.D.Desk.front g.N.Names.known g.N.Names.asked s)) all.same all.goes in
-    let done = call_decided given known asked log s.held.now.items (rr.compared ++ rr.answers) rr.calling new c.loop-ruling.look.site c.verdict-verdict.result d.0 d.1 d.2 legal (ruled_way given known asked log s.held.now.items rr.compared rr.answers rr.calling new c.loop-ruling.look.site c.verdict-verdict.result d.0 d.1 d.2 legal ruled named.0 here d.3.0 own) (ruled_row given known asked log s.held.now.items rr.compared rr.answers rr.calling new c.loop-ruling.look.site c.verdict-verdict.result d.0 d.1 d.2 legal ruled named.0 here d.3.0 own) (g.D.Desk.front c.args.self.now.desk.now) (goes.begun (kinds_of s.args)) in
+    let unfit = unfit_ruled (given_of g.D.Desk.fixed w) given a.same (given_of g.D.Desk.fixed c.args.self.now) c.loop-ruling.invariant.alike.same (g.D.Desk.front c.args.self.now.desk.now) (g.D.Desk.front w.desk.now) log s.held.now.items c.loop-ruling.invariant.unfit c.ruling.ensures.unfit in
+    let done = call_decided given known asked log s.held.now.items (rr.compared ++ rr.answers) rr.calling new c.loop-ruling.look.site c.verdict-verdict.result d.0 d.1 d.2 legal (ruled_way given known asked log s.held.now.items rr.compared rr.answers rr.calling new c.loop-ruling.look.site c.verdict-verdict.result d.0 d.1 d.2 legal ruled named.0 here d.3.0 own) (ruled_row given known asked log s.held.now.items rr.compared rr.answers rr.calling new c.loop-ruling.look.site c.verdict-verdict.result d.0 d.1 d.2 legal ruled named.0 here d.3.0 own) (g.D.Desk.front c.args.self.now.desk.now) (begun_goes given (moment_of g.D.Desk.front g.N.Names.known g.N.Names.asked c.args.self.now) (moment_of g.D.Desk.front g.N.Names.known g.N.Names.asked s) goes unfit) in
     rw (c.decide.ensures.fixed, c.reserve.ensures.fixed)
     (subst (λ (o : Option BodySite). Decided given known (g.D.Desk.front c.args.self.now.desk.now) new (verdict_by c.in_ok-ruling.ruling) o) rr.is
     (subst (λ (v : Verdict). Decided given known (g.D.Desk.front c.args.self.now.desk.now) new v c.loop-ruling.look.site) c.verdict-verdict.ensures done))
@@ -229,7 +233,7 @@ returns-in-Ok-clause-grew g c =
     let here : place known (given.class.0, named.0) ≡ Some given.key.0 = subst (λ (h : Given). place known (h.class.0, named.0) ≡ Some h.key.0) a.same (place-longer _ known (w.class.0, named.0) w.key.0 a.goes.went.named named.1) in
     let own = subst (λ (h : Given). IsOwnCache h.t known asked h.door.caller log h.cache) a.same (goes_own (given_of g.D.Desk.fixed w) (moment_of g.D.Desk.front g.N.Names.known g.N.Names.asked w) (moment_of g.D.Desk.front g.N.Names.known g.N.Names.asked s) w.cache.now a.goes c.loop-ruling.invariant.own) in
     let rules = fits_since_on _ _ (moment_of g.D.Desk.front g.N.Names.known g.N.Names.asked c.args.self.now) (moment_of g.D.Desk.front g.N.Names.known g.N.Names.asked w) (moment_of g.D.Desk.front g.N.Names.known g.N.Names.asked s) c.loop-ruling.invariant.alike.same a.goes.went c.loop-ruling.invariant.rules c.ruling.ensures.rules in
-    decided_grew _ given all.same (moment_of g.D.Desk.front g.N.Names.known g.N.Names.asked c.args.self.now) known asked log new c.loop-ruling.look.site c.verdict-verdict.result (d.0, d.1, d.2) (with_rules _ _ _ _ _ _ _ all.goes.grew rules) (ruled_row given known asked log s.held.now.items rr.compared rr.answers rr.calling new c.loop-ruling.look.site c.verdict-verdict.result d.0 d.1 d.2 legal ruled named.0 here d.3.0 own)
+    decided_grew _ given all.same (moment_of g.D.Desk.front g.N.Names.known g.N.Names.asked c.args.self.now) known asked log new c.loop-ruling.look.site c.verdict-verdict.result (d.0, d.1, d.2) (with_rules _ _ _ _ _ _ _ all.goes.grew rules) (subst (λ (h : Given). IsFilled h.args) a.same c.loop-ruling.invariant.args.1) (ruled_row given known asked log s.held.now.items rr.compared rr.answers rr.calling new c.loop-ruling.look.site c.verdict-verdict.result d.0 d.1 d.2 legal ruled named.0 here d.3.0 own)
     (call_whole given known asked log s.held.now.items (rr.compared ++ rr.answers) rr.calling new c.loop-ruling.look.site c.verdict-verdict.result d.0 d.1 d.2 legal) (ruled_way given known asked log s.held.now.items rr.compared rr.answers rr.calling new c.loop-ruling.look.site c.verdict-verdict.result d.0 d.1 d.2 legal ruled named.0 here d.3.0 own)
 
 pub returns-in_err-ruling-clause-own : goal.returns-in_err-ruling-clause-own
@@ -277,7 +281,7 @@ pub returns-in_err-reserve-clause-decided : goal.returns-in_err-reserve-clause-d
 returns-in_err-reserve-clause-decided g c = not_ok (λ e. e ≡ fail.NoMemory) _ c.from_residual-in_err-reserve.result c.from_residual-in_err-reserve.ensures.1
 
 pub returns-in_err-ruling-clause-full : goal.returns-in_err-ruling-clause-full
-returns-in_err-ruling-clause-full g c = if_err (IsFullFor (g.N.Names.known c.ruling.new.self.names.now)) c.from_residual.result c.in_err-ruling.field-0.0 c.from_residual.ensures.1 c.in_err-ruling.ensures.full
+returns-in_err-ruling-clause-full g c = if_err (IsFullFor (given_of g.D.Desk.fixed c.ruling.new.self) (g.N.Names.known c.ruling.new.self.names.now)) c.from_residual.result c.in_err-ruling.field-0.0 c.from_residual.ensures.1 c.in_err-ruling.ensures.full
 
 pub returns-in_err-ruling-clause-rightly : goal.returns-in_err-ruling-clause-rightly
 returns-in_err-ruling-clause-rightly g c =
@@ -285,7 +289,7 @@ returns-in_err-ruling-clause-rightly g c =
     if_err (IsRightlyFor s.prog.now (g.N.Names.known s.names.now) (g.D.Desk.fixed s.desk.now).caller s.q s.key (g.D.Desk.front s.desk.now)) c.from_residual.result c.in_err-ruling.field-0.0 c.from_residual.ensures.1 c.in_err-ruling.ensures.rightly
 
 pub returns-in_err-reserve-clause-full : goal.returns-in_err-reserve-clause-full
-returns-in_err-reserve-clause-full g c = if_err (IsFullFor (g.N.Names.known c.ruling.new.self.names.now)) c.from_residual-in_err-reserve.result fail.NoMemory c.from_residual-in_err-reserve.ensures.1 tt
+returns-in_err-reserve-clause-full g c = rw (c.reserve.ensures.fixed) (if_err (IsFullFor (given_of g.D.Desk.fixed c.ruling.new.self) (g.N.Names.known c.ruling.new.self.names.now)) c.from_residual-in_err-reserve.result fail.NoMemory c.from_residual-in_err-reserve.ensures.1 tt)
 
 pub returns-in_err-reserve-clause-rightly : goal.returns-in_err-reserve-clause-rightly
 returns-in_err-reserve-clause-rightly g c =

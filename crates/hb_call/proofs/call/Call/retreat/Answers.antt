@@ -39,4 +39,4 @@ pub returns-clause-freed : goal.returns-clause-freed
 returns-clause-freed g c =
     let s = c.args.self.now in let answers = c.requires.holding.0 in let h = c.requires.holding.1 in let f = c.free_keys.ensures in
     let door = g.D.Desk.fixed s.desk.now in let old = g.D.Desk.front s.desk.now in
-    (h.first.0, f.acts ∙ ap (λ ks. acts door.caller old ++ frees s.q ks) (tail_of s.key h.first.0 c.deref.result.now (c.deref.ensures.value ∙ h.first.1)))
+    (h.first.0, h.first.1, f.acts ∙ ap (λ ks. acts door.caller old ++ frees s.q ks) (tail_of s.key h.first.0 c.deref.result.now (c.deref.ensures.value ∙ h.first.1)))

@@ -18,6 +18,8 @@ use Rattle.hb_call.specs.GrowthLaws.{each_itself}
 use Rattle.hb_call.specs.Seen.{given_of, moment_of}
 use Rattle.hb_call.proofs.AgreedLemmas.{body_as, body_known, calling_compared, live_as, live_on, named_as, own_as, takes_as, there, type_known}
 use Rattle.hb_call.proofs.FullLemmas.{if_err}
+use Rattle.hb_call.proofs.RetreatLemmas.{early_unfit}
+use Rattle.hb_call.proofs.TakesLemmas.{never_unfit}
 use Rattle.hb_call.proofs.RulingLemmas.{bad_args, no_body, no_type, ruled_early, ruled_kept}
 use Rattle.hb_call.proofs.call.Call.ruling.Goals as goal
 
@@ -26,6 +28,11 @@ returns-in_default-clause-alike g c = alike_itself _ _
 
 pub returns-in_default-clause-rules : goal.returns-in_default-clause-rules
 returns-in_default-clause-rules g c = each_itself _ _ _
+
+pub returns-in_default-clause-unfit : goal.returns-in_default-clause-unfit
+returns-in_default-clause-unfit g c =
+    let s = c.args.self.now in
+    early_unfit (given_of g.D.Desk.fixed s) _ _ (g.D.Desk.front s.desk.now) s.held.now.items s.compared.now.items s.answers.now.items c.requires.fresh.1 c.requires.fresh.0 c.requires.calling
 
 pub returns-in_default-clause-live : goal.returns-in_default-clause-live
 returns-in_default-clause-live g c = ([], append-nil _, tt)
@@ -44,6 +51,11 @@ returns-then-body-bodies-clause-alike g c = alike_itself _ _
 
 pub returns-then-body-bodies-clause-rules : goal.returns-then-body-bodies-clause-rules
 returns-then-body-bodies-clause-rules g c = each_itself _ _ _
+
+pub returns-then-body-bodies-clause-unfit : goal.returns-then-body-bodies-clause-unfit
+returns-then-body-bodies-clause-unfit g c =
+    let s = c.args.self.now in
+    early_unfit (given_of g.D.Desk.fixed s) _ _ (g.D.Desk.front s.desk.now) s.held.now.items s.compared.now.items s.answers.now.items c.requires.fresh.1 c.requires.fresh.0 c.requires.calling
 
 pub returns-then-body-bodies-clause-live : goal.returns-then-body-bodies-clause-live
 returns-then-body-bodies-clause-live g c = ([], append-nil _, tt)
@@ -64,6 +76,11 @@ returns-in_default-ty-clause-alike g c = alike_itself _ _
 pub returns-in_default-ty-clause-rules : goal.returns-in_default-ty-clause-rules
 returns-in_default-ty-clause-rules g c = each_itself _ _ _
 
+pub returns-in_default-ty-clause-unfit : goal.returns-in_default-ty-clause-unfit
+returns-in_default-ty-clause-unfit g c =
+    let s = c.args.self.now in
+    early_unfit (given_of g.D.Desk.fixed s) _ _ (g.D.Desk.front s.desk.now) s.held.now.items s.compared.now.items s.answers.now.items c.requires.fresh.1 c.requires.fresh.0 c.requires.calling
+
 pub returns-in_default-ty-clause-live : goal.returns-in_default-ty-clause-live
 returns-in_default-ty-clause-live g c = ([], append-nil _, tt)
 
@@ -83,6 +100,11 @@ returns-then-declared-types-clause-alike g c = alike_itself _ _
 pub returns-then-declared-types-clause-rules : goal.returns-then-declared-types-clause-rules
 returns-then-declared-types-clause-rules g c = each_itself _ _ _
 
+pub returns-then-declared-types-clause-unfit : goal.returns-then-declared-types-clause-unfit
+returns-then-declared-types-clause-unfit g c =
+    let s = c.args.self.now in
+    early_unfit (given_of g.D.Desk.fixed s) _ _ (g.D.Desk.front s.desk.now) s.held.now.items s.compared.now.items s.answers.now.items c.requires.fresh.1 c.requires.fresh.0 c.requires.calling
+
 pub returns-then-declared-types-clause-live : goal.returns-then-declared-types-clause-live
 returns-then-declared-types-clause-live g c = ([], append-nil _, tt)
 
@@ -101,6 +123,11 @@ returns-then-not-takes-clause-alike g c = alike_itself _ _
 
 pub returns-then-not-takes-clause-rules : goal.returns-then-not-takes-clause-rules
 returns-then-not-takes-clause-rules g c = each_itself _ _ _
+
+pub returns-then-not-takes-clause-unfit : goal.returns-then-not-takes-clause-unfit
+returns-then-not-takes-clause-unfit g c =
+    let s = c.args.self.now in
+    early_unfit (given_of g.D.Desk.fixed s) _ _ (g.D.Desk.front s.desk.now) s.held.now.items s.compared.now.items s.answers.now.items c.requires.fresh.1 c.requires.fresh.0 c.requires.calling
 
 pub returns-then-not-takes-clause-live : goal.returns-then-not-takes-clause-live
 returns-then-not-takes-clause-live g c = ([], append-nil _, tt)
@@ -136,6 +163,9 @@ returns-in_err-agrees-clause-alike g c = c.agrees.ensures.ended.alike
 pub returns-in_err-agrees-clause-names : goal.returns-in_err-agrees-clause-names
 returns-in_err-agrees-clause-names g c = subst (λ x. g.N.Names.alike c.args.self.now.names.now x.now) (sym c.agrees.ensures.names) (g.N.Names.alike_itself c.args.self.now.names.now)
 
+pub returns-in_err-agrees-clause-unfit : goal.returns-in_err-agrees-clause-unfit
+returns-in_err-agrees-clause-unfit g c = never_unfit (given_of g.D.Desk.fixed c.args.self.now) (record { declared = c.in-Some-ty.declared; typed = c.in-Some-ty.is; ty = c.type_of.result; is = c.type_of.ensures.value; fits = sym c.takes.ensures ∙ c.if-not-takes.false }) _ _ _
+
 pub returns-in_err-agrees-clause-live : goal.returns-in_err-agrees-clause-live
 returns-in_err-agrees-clause-live g c = c.agrees.ensures.ended.live
 
@@ -145,7 +175,7 @@ returns-in_err-agrees-clause-rules g c = c.agrees.ensures.ended.rules
 pub returns-in_err-agrees-clause-full : goal.returns-in_err-agrees-clause-full
 returns-in_err-agrees-clause-full g c =
     let n = c.agrees.new.self in
-    if_err (IsFullFor (g.N.Names.known n.names.now)) c.from_residual.result c.in_err-agrees.field-0.0 c.from_residual.ensures.1 (subst (IsFullFor (g.N.Names.known n.names.now)) (sym c.in_err-agrees.ensures.ended.tells) tt)
+    if_err (IsFullFor (given_of g.D.Desk.fixed n) (g.N.Names.known n.names.now)) c.from_residual.result c.in_err-agrees.field-0.0 c.from_residual.ensures.1 (subst (IsFullFor (given_of g.D.Desk.fixed n) (g.N.Names.known n.names.now)) (sym c.in_err-agrees.ensures.ended.tells) tt)
 
 pub returns-in_err-agrees-clause-rightly : goal.returns-in_err-agrees-clause-rightly
 returns-in_err-agrees-clause-rightly g c =
@@ -160,6 +190,9 @@ returns-then-branch-clause-alike g c = c.agrees.ensures.ended.alike
 
 pub returns-then-branch-clause-names : goal.returns-then-branch-clause-names
 returns-then-branch-clause-names g c = subst (λ x. g.N.Names.alike c.args.self.now.names.now x.now) (sym c.agrees.ensures.names) (g.N.Names.alike_itself c.args.self.now.names.now)
+
+pub returns-then-branch-clause-unfit : goal.returns-then-branch-clause-unfit
+returns-then-branch-clause-unfit g c = never_unfit (given_of g.D.Desk.fixed c.args.self.now) (record { declared = c.in-Some-ty.declared; typed = c.in-Some-ty.is; ty = c.type_of.result; is = c.type_of.ensures.value; fits = sym c.takes.ensures ∙ c.if-not-takes.false }) _ _ _
 
 pub returns-then-branch-clause-live : goal.returns-then-branch-clause-live
 returns-then-branch-clause-live g c = c.agrees.ensures.ended.live
@@ -232,6 +265,9 @@ returns-clause-alike g c = alike_on _ _ _ _ _ _ c.agrees.ensures.ended.alike c.c
 
 pub returns-clause-names : goal.returns-clause-names
 returns-clause-names g c = subst (λ x. g.N.Names.alike x.now c.checked.new.self.names.now) c.agrees.ensures.names c.checked.ensures.names
+
+pub returns-clause-unfit : goal.returns-clause-unfit
+returns-clause-unfit g c = never_unfit (given_of g.D.Desk.fixed c.args.self.now) (record { declared = c.in-Some-ty.declared; typed = c.in-Some-ty.is; ty = c.type_of.result; is = c.type_of.ensures.value; fits = sym c.takes.ensures ∙ c.if-not-takes.false }) _ _ _
 
 pub returns-clause-live : goal.returns-clause-live
 returns-clause-live g c =
