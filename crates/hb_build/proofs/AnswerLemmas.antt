@@ -2,11 +2,9 @@
 use Rattle.std.proofs.Common.{◌≡◌, ◌⊎◌, Result, Ok, Err, inl, inr, sym, ap, ◌∙◌}
 use Rattle.std.proofs.lemmas.Bool.{false≢true}
 use Rattle.std.specs.Result.{IsErr, IsErrAnd}
-use Rattle.hb_build.specs.declared.builder.Builder.{Builder}
-use Rattle.hb_build.specs.declared.faults.ParseFail.{ParseFail}
+use Rattle.hb_build.specs.{Acts.Answer, Acts.Fails, Answers.Answers}
+use Rattle.hb_build.specs.declared.{builder.Builder.Builder, faults.ParseFail.ParseFail}
 use Rattle.hb_build.specs.declared.faults.ParseFail.TheVariants as fail
-use Rattle.hb_build.specs.Acts.{Answer, Fails}
-use Rattle.hb_build.specs.Answers.{Answers}
 
 pub answers-fault : {X : Type 0} (answer : Answer) (r : Result X ParseFail) (new : Builder) (fault : ParseFail) → IsErr r × IsErrAnd r (λ e. e ≡ fault)
     → (answer ≡ Fails fault) ⊎ (fault ≡ fail.NoMemory) → Answers answer r new

@@ -1,15 +1,12 @@
 -- The arguments below the expression on top, as a builder counts them.
 use Rattle.std.proofs.Common.{◌≡◌, ℕ, ◌≤◌, ◌<◌, List, true, false, Some, length, take, reverse, sym, ap, arith, subst}
 use Rattle.std.specs.List.{AllByRecursion, slice_get}
-use Rattle.std.proofs.lemmas.List.{length-reverse}
-use Rattle.std.proofs.lemmas.Bool.Decides.{nat_tests}
-use Rattle.hb_build.specs.declared.builder.Builder.{Builder}
-use Rattle.hb_build.specs.declared.held.Held.{Held}
+use Rattle.std.proofs.{lemmas.List.length-reverse, lemmas.Bool.Decides.nat_tests}
+use Rattle.hb_build.proofs.{CountLemmas.length-arguments, ItemLemmas.HasOperand}
+use Rattle.hb_build.specs.declared.{builder.Builder.Builder, held.Held.Held}
 use Rattle.hb_build.specs.declared.held.Held.TheVariants as held
 use Rattle.hb_build.specs.Pile.{Slot, arguments_on, is_full, piled}
 use Rattle.hb_build.specs.Sound.{IsSound, trees_in}
-use Rattle.hb_build.proofs.CountLemmas.{length-arguments}
-use Rattle.hb_build.proofs.ItemLemmas.{HasOperand}
 
 pub arguments-below : (b : Builder) (t : HasOperand b) → IsSound b → (items : List Held) → reverse items ≡ t.rest → (n : ℕ) → n ≤ length items
     → AllByRecursion (λ t. t ≡ held.Argument) (take n (reverse items)) → (slice_get (reverse items) n ≡ Some held.Argument → ⊥)

@@ -2,21 +2,16 @@
 use Rattle.std.proofs.Common.{◌≡◌, ℕ, ◌+◌, ◌<◌, ◌≤◌, List, [], ◌∷◌, ◌++◌, None, Some, refl, sym, ◌∙◌, ap, ap₂, subst, length, arith}
 use Rattle.std.proofs.lemmas.List.{append_assoc}
 use Rattle.hb_types.specs.declared.ids.NameId.{NameId}
-use Rattle.hb_tree.specs.Tree.{Tree, TAssign, IsExpr}
-use Rattle.hb_tree.specs.Counts.{height, names_assigned_in}
-use Rattle.hb_draft.specs.Unfinished.{in_hand, unary_over}
-use Rattle.hb_draft.specs.Made.{made_of}
+use Rattle.hb_tree.specs.{Tree.Tree, Tree.TAssign, Tree.IsExpr, Counts.height, Counts.names_assigned_in}
 use Rattle.hb_build.specs.Said.{said_of}
-use Rattle.hb_build.specs.declared.builder.Builder.{Builder}
-use Rattle.hb_build.specs.declared.held.Held.{Held}
+use Rattle.hb_build.specs.declared.{builder.Builder.Builder, held.Held.Held, held.Spot.Spot, faults.ParseFail.ParseFail}
 use Rattle.hb_build.specs.declared.held.Held.TheVariants as held
-use Rattle.hb_build.specs.declared.held.Spot.{Spot}
-use Rattle.hb_build.specs.declared.faults.ParseFail.{ParseFail}
 use Rattle.hb_build.specs.Pile.{Slot, Operand, Target, piled, names_since}
 use Rattle.hb_build.specs.Acts.{Work, Answer, Goes, Fails, Lost, complete, closed, passed, with_operand, with_target}
 use Rattle.hb_build.specs.Sound.{things_of, pile_of, work_of, trees_in, IsGood, IsSound}
 use Rattle.hb_build.proofs.TakeLemmas.{top-operand, top-target}
 use Rattle.hb_build.proofs.NodeLemmas.{IsOneMore, IsPut, IsWithin, within, node-goes, complete-fails, is_over, sound-put}
+use Rattle.hb_draft.specs.{Unfinished.in_hand, Unfinished.unary_over, Made.made_of}
 
 abbrev pub assign : ℕ → ℕ → Tree → Tree
 assign x id e = TAssign id x e

@@ -1,21 +1,15 @@
 -- A builder stays sound when a body, the setup or a script begins.
 use Rattle.std.proofs.Common.{◌≡◌, ℕ, ◌≤◌, ◌+◌, List, [], ◌∷◌, ◌++◌, true, false, length, reverse, sym, ap, ap₂, ◌∙◌, arith, subst}
-use Rattle.std.specs.Prelude.{nat_eq}
-use Rattle.std.specs.Set.{is_member}
-use Rattle.std.specs.List.{IsDistinct}
+use Rattle.std.specs.{Prelude.nat_eq, Set.is_member, List.IsDistinct}
 use Rattle.std.proofs.lemmas.List.{length_push, length-map, reverse-append}
 use Rattle.hb_types.specs.declared.types.TheConstants.{PARAMS_MAX}
 use Rattle.hb_tree.specs.Tree.{Tree}
-use Rattle.hb_draft.specs.Unfinished.{in_hand}
-use Rattle.hb_draft.specs.Made.{made_of}
+use Rattle.hb_draft.specs.{Unfinished.in_hand, Made.made_of}
 use Rattle.hb_draft.specs.declared.draft.Draft.{Draft}
-use Rattle.hb_build.specs.declared.builder.Builder.{Builder}
-use Rattle.hb_build.specs.declared.builder.Scope.{Scope}
-use Rattle.hb_build.specs.declared.held.Held.{Held}
+use Rattle.hb_build.specs.{Said.said_of, Acts.Work, Acts.push}
+use Rattle.hb_build.specs.declared.{builder.Builder.Builder, builder.Scope.Scope, held.Held.Held}
 use Rattle.hb_build.specs.Pile.{Slot, Body, piled, in_body, names_since, parameters_on, declaring}
 use Rattle.hb_build.specs.Sound.{IsSound, IsGood, IsCount, outside, marks, trees_in, things_of, pile_of, work_of, numbers}
-use Rattle.hb_build.specs.Said.{said_of}
-use Rattle.hb_build.specs.Acts.{Work, push}
 use Rattle.hb_build.proofs.ParamsLemmas.{params-apart, params-few}
 
 -- the mark at which a scope begins

@@ -1,19 +1,14 @@
 -- An operation over two operands, its own token between them.
 use Rattle.std.proofs.Common.{◌≡◌, ℕ, ◌≤◌, List, ◌∷◌, refl, sym, ◌∙◌, ap, ap₂, subst, length, max, arith, append_assoc}
 use Rattle.hb_tree.specs.declared.node.Op.{Op}
-use Rattle.hb_tree.specs.Tree.{Tree, TBinary}
-use Rattle.hb_tree.specs.Counts.{height, highest, names_assigned_in}
+use Rattle.hb_tree.specs.{Tree.Tree, Tree.TBinary, Counts.height, Counts.highest, Counts.names_assigned_in}
 use Rattle.hb_draft.specs.Unfinished.{in_hand, forest_of, last_in}
-use Rattle.hb_build.specs.declared.builder.Builder.{Builder}
-use Rattle.hb_build.specs.declared.held.Held.{Held}
+use Rattle.hb_build.proofs.{TakeLemmas.top-operand, TakeLemmas.top-own, NodeLemmas.IsOneMore, StepLemmas.IsStep}
+use Rattle.hb_build.specs.declared.{builder.Builder.Builder, held.Held.Held, held.Spot.Spot}
 use Rattle.hb_build.specs.declared.held.Held.TheVariants as held
-use Rattle.hb_build.specs.declared.held.Spot.{Spot}
 use Rattle.hb_build.specs.Pile.{Slot, Operand, Own, piled, names_since}
 use Rattle.hb_build.specs.Acts.{Work, Answer, Lost, complete, with_operand, with_own}
 use Rattle.hb_build.specs.Sound.{things_of, pile_of, work_of, trees_in, IsGood, IsSound}
-use Rattle.hb_build.proofs.TakeLemmas.{top-operand, top-own}
-use Rattle.hb_build.proofs.NodeLemmas.{IsOneMore}
-use Rattle.hb_build.proofs.StepLemmas.{IsStep}
 
 pub record BinaryTop (b : Builder) : Type 0 where
   pub rest : List Held
@@ -29,8 +24,15 @@ binary-top b go kept =
     let x0 = top-operand (things_of b) (in_hand b.draft) (λ e2 pile. with_own pile (λ q pile. with_operand pile (λ e1 pile. go e2 q e1 pile))) kept in
     let x1 = top-own x0.0 x0.2 (λ q pile. with_operand pile (λ e1 pile. go x0.1 q e1 pile)) x0.5 in
     let x2 = top-operand x1.0 x0.2 (λ e1 pile. go x0.1 x1.1 e1 pile) x1.3 in
-    record { rest = x2.0; spot = x1.1; e2 = x0.1; e1 = x2.1; others = x2.2; things_are = x0.3 ∙ ap (λ (x : List Held). held.Operand ∷ x) (x1.2 ∙ ap (λ (x : List Held). held.Own x1.1 ∷ x) (x2.3));
-        hand_is = x0.4 ∙ ap (λ (x : List Tree). x0.1 ∷ x) (x2.4) }
+    record {
+      rest = x2.0;
+      spot = x1.1;
+      e2 = x0.1;
+      e1 = x2.1;
+      others = x2.2;
+      things_are = x0.3 ∙ ap (λ (x : List Held). held.Operand ∷ x) (x1.2 ∙ ap (λ (x : List Held). held.Own x1.1 ∷ x) (x2.3));
+      hand_is = x0.4 ∙ ap (λ (x : List Tree). x0.1 ∷ x) (x2.4);
+    }
 
 -- the same by what was taken off
 abbrev pub binary-retop : (b : Builder) (t : BinaryTop b) (rest : List Held) (spot : Spot) → held.Operand ∷ held.Own t.spot ∷ held.Operand ∷ t.rest ≡ held.Operand ∷ held.Own spot ∷ held.Operand ∷ rest → BinaryTop b

@@ -1,23 +1,17 @@
 -- A block over its items.
 use Rattle.std.proofs.Common.{◌≡◌, ℕ, ◌+◌, ◌-◌, ◌≤◌, List, [], ◌∷◌, ◌++◌, Some, refl, sym, ◌∙◌, ap, ap₂, subst, length, length-drop, reverse, take, drop, slice_get, arith}
 use Rattle.std.specs.List.{AllByRecursion}
+use Rattle.hb_tree.specs.{Tree.Tree, Tree.TBlock, Counts.highest}
 use Rattle.hb_tree.specs.declared.limits.TheConstants.{HEIGHT_MAX}
-use Rattle.hb_tree.specs.Tree.{Tree, TBlock}
-use Rattle.hb_tree.specs.Counts.{highest}
 use Rattle.hb_draft.specs.Unfinished.{in_hand, HasExprs, forest_of, last_in}
-use Rattle.hb_build.specs.declared.builder.Builder.{Builder}
-use Rattle.hb_build.specs.declared.held.Held.{Held}
+use Rattle.hb_build.proofs.{TakeLemmas.top-block, NodeLemmas.IsOneMore, StepLemmas.IsStep, HighestLemmas.highest-tallest, TruncateLemmas.reverse-take}
+use Rattle.hb_build.proofs.{TruncateLemmas.slice_get-drop}
+use Rattle.hb_build.specs.declared.{builder.Builder.Builder, held.Held.Held, held.Spot.Spot}
 use Rattle.hb_build.specs.declared.held.Held.TheVariants as held
-use Rattle.hb_build.specs.declared.held.Spot.{Spot}
 use Rattle.hb_build.specs.Pile.{Slot, Closed, Item, Block, piled, items_on, below_items}
 use Rattle.hb_build.specs.Acts.{Work, Answer, Lost, complete, with_block}
 use Rattle.hb_build.specs.Sound.{things_of, pile_of, work_of, trees_in, IsGood, IsSound}
 use Rattle.std.proofs.lemmas.List.{length-reverse}
-use Rattle.hb_build.proofs.TakeLemmas.{top-block}
-use Rattle.hb_build.proofs.NodeLemmas.{IsOneMore}
-use Rattle.hb_build.proofs.StepLemmas.{IsStep}
-use Rattle.hb_build.proofs.HighestLemmas.{highest-tallest}
-use Rattle.hb_build.proofs.TruncateLemmas.{reverse-take, slice_get-drop}
 use Rattle.hb_build.proofs.ListedLemmas.{Over, Counts, items-listed, run-over, run-trees, run-exprs, over-counts, over-good, items-end, items-over, low-parts}
 
 -- the last things are so many items and no more

@@ -1,31 +1,22 @@
 -- A body ends: its definition is the next node, and counts in the scope around it.
 use Rattle.std.proofs.Common.{◌≡◌, ℕ, ◌+◌, ◌-◌, ◌≤◌, suc, List, [], ◌∷◌, ◌++◌, refl, sym, ◌∙◌, ap, ap₂, subst, length, reverse, drop, arith, take, Vec, Global}
-use Rattle.std.specs.Prelude.{nat_eq}
-use Rattle.std.specs.Cmp.{nat_eq_equiv}
-use Rattle.std.specs.Set.{distinct_count}
+use Rattle.std.specs.{Prelude.nat_eq, Cmp.nat_eq_equiv, Set.distinct_count}
 use Rattle.std.proofs.lemmas.List.{reverse-append, length_push, length-map, length-reverse}
 use Rattle.std.proofs.lemmas.Map.Made.{length-from_keys}
 use Rattle.hb_types.specs.declared.ids.NameId.{NameId}
+use Rattle.hb_tree.specs.{Tree.Tree, Counts.names_assigned_in, Counts.variables_in}
 use Rattle.hb_tree.specs.declared.limits.TheConstants.{VARIABLES_MAX}
-use Rattle.hb_tree.specs.Tree.{Tree}
-use Rattle.hb_tree.specs.Counts.{names_assigned_in, variables_in}
 use Rattle.hb_draft.specs.Unfinished.{in_hand}
 use Rattle.hb_draft.specs.declared.draft.Draft.{Draft}
-use Rattle.hb_build.specs.declared.builder.Builder.{Builder}
-use Rattle.hb_build.specs.declared.builder.Scope.{Scope}
-use Rattle.hb_build.specs.declared.held.Held.{Held}
+use Rattle.hb_build.proofs.{TakeLemmas.top-closed, TakeLemmas.top-body, RelaidLemmas.IsSameCount, RelaidLemmas.count-same, BlockLemmas.cut-is, ParameterLemmas.few-parameters}
+use Rattle.hb_build.proofs.{PiledLemmas.parameters-piled, PiledLemmas.below-parameters-piled, DefLemmas.hand-without}
+use Rattle.hb_build.specs.declared.{builder.Builder.Builder, builder.Scope.Scope, held.Held.Held}
 use Rattle.hb_build.specs.declared.held.Held.TheVariants as held
 use Rattle.hb_build.specs.Pile.{Slot, Closed, Parameter, Body, piled, declaring, parameters_on, below_parameters}
 use Rattle.hb_build.specs.Acts.{Work, Answer, Lost, define, closed, with_closed, with_body}
 use Rattle.hb_build.specs.Sound.{things_of, pile_of, work_of, trees_in, IsGood, outside, marks, IsCount, AreCounts, IsSound, numbers, parameters_of}
 use Rattle.hb_build.specs.Ended.{without_last, definition, IsEnded}
-use Rattle.hb_build.proofs.TakeLemmas.{top-closed, top-body}
-use Rattle.hb_build.proofs.RelaidLemmas.{IsSameCount, count-same}
-use Rattle.hb_build.proofs.BlockLemmas.{cut-is}
-use Rattle.hb_build.proofs.ParameterLemmas.{few-parameters}
-use Rattle.hb_build.proofs.PiledLemmas.{parameters-piled, below-parameters-piled}
 use Rattle.hb_build.proofs.ParamsLemmas.{params-apart, params-few, params-known, below-params-good}
-use Rattle.hb_build.proofs.DefLemmas.{hand-without}
 
 -- ── parameters count for nothing ──
 
@@ -145,7 +136,7 @@ module _ (old new : Builder) (sound : IsSound old) (t : BodyTop old) (ends : End
   defined : define (parameters_on below) t.block (below_parameters below) (closed (work_of old)) ≡ definition (parameters_on below) t.block new
   defined =
       ap₂ (λ (d : Draft) (n : ℕ). let w : Work = record (work_of old) { said = (work_of (record old { draft = d })).said; depth = n } in
-          define (parameters_on below) t.block (below_parameters below) w) (sym ends.draft) (sym ends.depth)
+      define (parameters_on below) t.block (below_parameters below) w) (sym ends.draft) (sym ends.depth)
       ∙ ap (λ (x : List Slot). define (parameters_on below) t.block x (work_of (without_last new))) (sym pile-then)
 
   pub definition-is : answer old ≡ definition (parameters_on below) t.block new

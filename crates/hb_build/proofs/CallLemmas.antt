@@ -1,26 +1,19 @@
 -- A call over its receiver and its arguments.
 use Rattle.std.proofs.Common.{◌≡◌, ℕ, ◌+◌, ◌≤◌, List, [], ◌∷◌, ◌++◌, refl, sym, ◌∙◌, ap, ap₂, subst, length, length-drop, length-append, max, reverse, take, drop, arith, append_assoc}
 use Rattle.std.specs.List.{AllByRecursion}
-use Rattle.std.proofs.Math.Seq.{take-add}
-use Rattle.std.proofs.lemmas.List.{reverse-append, length-reverse, length-take-le}
+use Rattle.std.proofs.{Math.Seq.take-add, lemmas.List.reverse-append, lemmas.List.length-reverse, lemmas.List.length-take-le}
 use Rattle.hb_types.specs.declared.ids.NameId.{NameId}
 use Rattle.hb_tree.specs.declared.limits.TheConstants.{HEIGHT_MAX, ARGUMENTS_MAX}
 use Rattle.hb_tree.specs.Tree.{Tree, IsExpr, TCall}
 use Rattle.hb_tree.specs.Counts.{height, highest, names_assigned_in, names_assigned_in_all}
 use Rattle.hb_draft.specs.Unfinished.{in_hand, HasExprs, forest_of, last_in}
-use Rattle.hb_build.specs.declared.builder.Builder.{Builder}
-use Rattle.hb_build.specs.declared.held.Held.{Held}
+use Rattle.hb_build.proofs.{TakeLemmas.top-called, TakeLemmas.top-operand, NodeLemmas.IsOneMore, StepLemmas.IsStep, HighestLemmas.highest-tallest, TruncateLemmas.slice_get-drop}
+use Rattle.hb_build.proofs.{BlockLemmas.IsRun}
+use Rattle.hb_build.specs.declared.{builder.Builder.Builder, held.Held.Held, held.Spot.Spot}
 use Rattle.hb_build.specs.declared.held.Held.TheVariants as held
-use Rattle.hb_build.specs.declared.held.Spot.{Spot}
 use Rattle.hb_build.specs.Pile.{Slot, Operand, Argument, Called, piled, arguments_on, below_arguments, names_since}
 use Rattle.hb_build.specs.Acts.{Work, Answer, Lost, complete, with_called, with_operand}
 use Rattle.hb_build.specs.Sound.{things_of, pile_of, work_of, trees_in, IsGood, IsSound}
-use Rattle.hb_build.proofs.TakeLemmas.{top-called, top-operand}
-use Rattle.hb_build.proofs.NodeLemmas.{IsOneMore}
-use Rattle.hb_build.proofs.StepLemmas.{IsStep}
-use Rattle.hb_build.proofs.HighestLemmas.{highest-tallest}
-use Rattle.hb_build.proofs.TruncateLemmas.{slice_get-drop}
-use Rattle.hb_build.proofs.BlockLemmas.{IsRun}
 use Rattle.hb_build.proofs.ListedLemmas.{Over, Here, More, Counts, arguments-listed, run-over, run-trees, run-exprs, over-counts, over-good, arguments-end, arguments-over, low-parts}
 
 -- what lies below the arguments: the method with its place, and the receiver

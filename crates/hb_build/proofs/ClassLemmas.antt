@@ -1,19 +1,14 @@
 -- A class that is declared, and whether one of this name was before.
 use Rattle.std.proofs.Common.{◌≡◌, ℕ, ◌<◌, List, [], ◌∷◌, ◌++◌, true, false, Option, Some, None, length, refl, sym, ap, ap₂, ◌∙◌, arith, inl, inr}
 use Rattle.std.specs.Prelude.{bytes_eq, nat_lt, position}
-use Rattle.std.specs.Option.{is_some, option_map}
-use Rattle.std.specs.List.{list_any, position_or_len}
-use Rattle.std.proofs.lemmas.List.{length_push}
+use Rattle.std.specs.{Option.is_some, Option.option_map, List.list_any, List.position_or_len}
+use Rattle.std.proofs.{lemmas.List.length_push, lemmas.Bool.Decides.nat_tests, lemmas.Option.slice_get_within}
 use Rattle.std.proofs.lemmas.Bool.{cases_Bool, cond-true, cond-false}
-use Rattle.std.proofs.lemmas.Bool.Decides.{nat_tests}
-use Rattle.std.proofs.lemmas.Option.{slice_get_within}
 use Rattle.hb_types.specs.declared.ids.ClassId.{ClassId}
-use Rattle.hb_draft.specs.Unfinished.{Unfinished, AddsClass, in_hand}
-use Rattle.hb_draft.specs.Made.{made_of, with_class}
+use Rattle.hb_draft.specs.{Unfinished.Unfinished, Unfinished.AddsClass, Unfinished.in_hand, Made.made_of, Made.with_class}
 use Rattle.hb_draft.proofs.WordLists.{number-place, number-new}
+use Rattle.hb_build.specs.{Said.said_of, Pile.piled}
 use Rattle.hb_build.specs.declared.builder.Builder.{Builder}
-use Rattle.hb_build.specs.Said.{said_of}
-use Rattle.hb_build.specs.Pile.{piled}
 use Rattle.hb_build.specs.Sound.{IsSound, work_of, things_of, pile_of}
 use Rattle.hb_build.proofs.GoodLemmas.{good-more}
 

@@ -1,28 +1,20 @@
 -- A definition over the block of its body, which lies apart in hand, and over the method with its own token.
 use Rattle.std.proofs.Common.{◌≡◌, ℕ, ◌+◌, ◌-◌, ◌≤◌, List, [], ◌∷◌, ◌++◌, refl, sym, ◌∙◌, ap, ap₂, subst, length, map, max, reverse, take, drop, arith}
 use Rattle.std.proofs.lemmas.List.{append-nil, reverse-append, length-map, length-reverse, take-map}
-use Rattle.hb_types.specs.declared.ids.ClassId.{ClassId}
-use Rattle.hb_types.specs.declared.ids.NameId.{NameId}
+use Rattle.hb_types.specs.declared.{ids.ClassId.ClassId, ids.NameId.NameId}
+use Rattle.hb_tree.specs.{TreeAt.tree_at, Counts.height, Counts.highest}
 use Rattle.hb_tree.specs.declared.limits.TheConstants.{HEIGHT_MAX}
 use Rattle.hb_tree.specs.Tree.{Tree, TDef, TDefComputed}
-use Rattle.hb_tree.specs.TreeAt.{tree_at}
-use Rattle.hb_tree.specs.Counts.{height, highest}
 use Rattle.hb_draft.specs.Unfinished.{Unfinished, in_hand, scripts_in, HasNameAndBlock, IsBodyBlock, forest_of, last_in}
-use Rattle.hb_draft.specs.Made.{Made, made_of, with_body}
-use Rattle.hb_draft.specs.Made.{with_node as with_made}
-use Rattle.hb_build.specs.declared.builder.Builder.{Builder}
-use Rattle.hb_build.specs.declared.held.Held.{Held}
+use Rattle.hb_draft.specs.{Made.Made, Made.made_of, Made.with_body, Made.with_node as with_made}
+use Rattle.hb_build.proofs.{TruncateLemmas.reverse-take, TakeLemmas.top-own, StepLemmas.IsStep}
+use Rattle.hb_build.specs.declared.{builder.Builder.Builder, held.Held.Held, held.Spot.Spot}
 use Rattle.hb_build.specs.declared.held.Held.TheVariants as held
-use Rattle.hb_build.specs.declared.held.Spot.{Spot}
-use Rattle.hb_build.specs.Said.{said_of}
+use Rattle.hb_build.specs.{Said.said_of, Ended.without_last, Ended.definition, Ended.IsEnded}
 use Rattle.hb_build.specs.Pile.{Slot, Operand, Own, Named, Computed, piled, names_since}
 use Rattle.hb_build.specs.Acts.{Work, Answer, Lost, complete, define, giving, with_own, with_method}
 use Rattle.hb_build.specs.Sound.{things_of, pile_of, work_of, trees_in, IsGood, with_node}
-use Rattle.hb_build.specs.Ended.{without_last, definition, IsEnded}
-use Rattle.hb_build.proofs.TruncateLemmas.{reverse-take}
-use Rattle.hb_build.proofs.TakeLemmas.{top-own}
-use Rattle.hb_build.proofs.NodeLemmas.{IsOneMore, IsPut, pushed}
-use Rattle.hb_build.proofs.StepLemmas.{IsStep}
+use Rattle.hb_build.proofs.{NodeLemmas.IsOneMore, NodeLemmas.IsPut, NodeLemmas.pushed, PushLemmas.things-over as popped}
 
 -- ── the hand without the last one ──
 
@@ -54,10 +46,6 @@ pub record ComputedTop (b : Builder) : Type 0 where
   pub others : List Tree
   pub things_are : things_of b ≡ held.Computed class ∷ held.Own spot ∷ rest
   pub hand_is : in_hand (without_last b).draft ≡ e ∷ others
-
--- what was popped lay on top
-pub popped : (items left : List Held) (thing : Held) → items ≡ left ++ thing ∷ [] → reverse items ≡ thing ∷ reverse left
-popped items left thing e = ap reverse e ∙ reverse-append left (thing ∷ [])
 
 pub last-is : (items left : List Held) (one other : Held) → items ≡ left ++ one ∷ [] → one ≡ other → items ≡ left ++ other ∷ []
 last-is items left one other e same = e ∙ ap (λ (x : Held). left ++ x ∷ []) same

@@ -1,21 +1,15 @@
 -- A builder stays sound when the setup or a script ends.
 use Rattle.std.proofs.Common.{◌≡◌, ◌≤◌, ◌<◌, ◌+◌, List, [], ◌∷◌, ◌++◌, false, length, map, reverse, sym, ap, ap₂, ◌∙◌, arith, subst}
-use Rattle.std.specs.Prelude.{nat_eq}
-use Rattle.std.proofs.lemmas.List.{length_push, reverse-append}
-use Rattle.std.proofs.lemmas.Bool.{ltb-false}
-use Rattle.std.specs.Set.{distinct_count}
-use Rattle.hb_tree.specs.Counts.{names_assigned_in}
-use Rattle.hb_tree.specs.Tree.{Tree, IsBlock}
+use Rattle.std.specs.{Prelude.nat_eq, Set.distinct_count}
+use Rattle.std.proofs.{lemmas.List.length_push, lemmas.List.reverse-append, lemmas.Bool.ltb-false}
+use Rattle.hb_tree.specs.{Counts.names_assigned_in, Tree.Tree, Tree.IsBlock}
 use Rattle.hb_tree.specs.declared.limits.TheConstants.{VARIABLES_MAX}
 use Rattle.hb_draft.specs.Unfinished.{in_hand, scripts_in, IsRootBlock}
-use Rattle.hb_build.specs.declared.builder.Builder.{Builder}
-use Rattle.hb_build.specs.declared.builder.Scope.{Scope}
-use Rattle.hb_build.specs.declared.held.Held.{Held}
+use Rattle.hb_build.proofs.{ScopeLemmas.few-assigned, BegunLemmas.IsMark}
+use Rattle.hb_build.specs.declared.{builder.Builder.Builder, builder.Scope.Scope, held.Held.Held}
 use Rattle.hb_build.specs.declared.held.Held.TheVariants as held
 use Rattle.hb_build.specs.Pile.{Slot, Closed, piled, names_since, declaring, has_too_many_variables}
 use Rattle.hb_build.specs.Sound.{IsSound, IsGood, IsCount, AreCounts, outside, marks, trees_in, things_of, pile_of, numbers}
-use Rattle.hb_build.proofs.ScopeLemmas.{few-assigned}
-use Rattle.hb_build.proofs.BegunLemmas.{IsMark}
 
 -- The block and the mark are taken off, the scope around is the innermost again, and the rest stays.
 pub record Ends (old new : Builder) (mark : Held) (b : Tree) : Type 0 where

@@ -2,20 +2,15 @@
 use Rattle.std.proofs.Common.{◌≡◌, ℕ, List, [], ◌∷◌, ◌++◌, Option, Some, None, refl, sym, ap, ◌∙◌, subst, append_assoc}
 use Rattle.std.proofs.lemmas.Option.{none-some}
 use Rattle.hb_lex.specs.declared.kinds.TokenKind.{TokenKind}
-use Rattle.hb_grammar.specs.declared.actions.Action.{Action}
-use Rattle.hb_grammar.specs.declared.symbols.Sort.{Sort}
-use Rattle.hb_grammar.specs.declared.symbols.Symbol.{Symbol}
-use Rattle.hb_grammar.specs.declared.symbols.Symbol.TheVariants.{Token as T, Phrase as N, Action as A}
-use Rattle.hb_grammar.specs.Grammar.{alternatives}
-use Rattle.hb_grammar.specs.Language.{IsOneOf, program}
+use Rattle.hb_grammar.specs.{Grammar.alternatives, Language.IsOneOf, Language.program}
+use Rattle.hb_grammar.specs.declared.{actions.Action.Action, symbols.Sort.Sort, symbols.Symbol.Symbol, symbols.Symbol.TheVariants.Token as T}
+use Rattle.hb_grammar.specs.declared.{symbols.Symbol.TheVariants.Phrase as N, symbols.Symbol.TheVariants.Action as A}
+use Rattle.hb_build.proofs.{SortLemmas.taken, SortLemmas.sort-leads, TopLemmas.Keeps, ActLemmas.acts-keep}
 use Rattle.hb_build.specs.declared.held.Spot.{Spot}
 use Rattle.hb_build.specs.Acts.{Work, Goes, Lost, act}
 use Rattle.hb_build.specs.Needs.{needs, HasToken}
 use Rattle.hb_build.specs.Tags.{Tag, taken_by, left_by, takes, leaves}
 use Rattle.hb_build.specs.Fits.{State, IsRead, unused, Leads, Fits, Stands}
-use Rattle.hb_build.proofs.SortLemmas.{taken, sort-leads}
-use Rattle.hb_build.proofs.TopLemmas.{Keeps}
-use Rattle.hb_build.proofs.ActLemmas.{acts-keep}
 
 -- ── less known of the token just read ──
 
@@ -92,13 +87,12 @@ needed : (need last : Option TokenKind) (bytes : List ℕ) → IsRead need last 
 needed None last bytes read h = tt
 needed (Some j) last bytes read h = subst (λ x. HasToken x bytes) read h
 
-still-known : (need last : Option TokenKind) (bytes : List ℕ) → HasToken last bytes → HasToken (unused need last) bytes
+pub still-known : (need last : Option TokenKind) (bytes : List ℕ) → HasToken last bytes → HasToken (unused need last) bytes
 still-known None last bytes h = h
 still-known (Some j) last bytes h = tt
 
 -- the action at the front of a stack that fits a pile
 module _ (done : Action) (stack : List Symbol) (s : State) (fits : Fits (A done ∷ stack) s) where
-
   pub fits-has_token : (bytes : List ℕ) → HasToken s.last bytes → HasToken (needs done) bytes
   fits-has_token bytes h = needed (needs done) s.last bytes fits.0 h
 

@@ -1,18 +1,15 @@
 -- A pile stays good, and a builder sound, when names and classes are added.
 use Rattle.std.proofs.Common.{◌≡◌, ℕ, ◌≤◌, List, [], ◌∷◌, ◌++◌, Bool, true, false, length, ap, arith, cond, ap₂}
-use Rattle.std.specs.Prelude.{bytes_eq}
-use Rattle.std.specs.List.{list_any}
+use Rattle.std.specs.{Prelude.bytes_eq, List.list_any}
 use Rattle.std.proofs.lemmas.List.{length_push}
 use Rattle.hb_types.specs.declared.types.Ty.{Ty}
 use Rattle.hb_types.specs.declared.types.Ty.TheVariants as ty
-use Rattle.hb_draft.specs.Words.{with_word}
+use Rattle.hb_draft.specs.{Words.with_word, Made.made_of, Made.with_name}
 use Rattle.hb_draft.specs.Unfinished.{Unfinished, AddsName, in_hand}
-use Rattle.hb_draft.specs.Made.{made_of, with_name}
+use Rattle.hb_build.specs.{Said.said_of, Acts.numbered}
 use Rattle.hb_build.specs.declared.builder.Builder.{Builder}
-use Rattle.hb_build.specs.Said.{said_of}
 use Rattle.hb_build.specs.Pile.{Slot, Operand, Closed, Item, Argument, Own, Declaring, Word, Target, Called, OfClass, Named, Computed, Parameter, OfType, ParameterType, Block, Body, Setup, Script, piled}
 use Rattle.hb_build.specs.Sound.{IsSound, IsGood, IsTy, work_of, things_of, pile_of}
-use Rattle.hb_build.specs.Acts.{numbered}
 
 is_ty-more : (few many : ℕ) (y : Ty) → few ≤ many → IsTy few y → IsTy many y
 is_ty-more few many (ty.Class c) up is = omega arith

@@ -2,9 +2,8 @@
 use Rattle.std.proofs.Common.{◌≡◌, ℕ, zero, suc, ◌+◌, List, [], ◌∷◌, ◌++◌, Some, refl, ◌∙◌, ap, subst, max, reverse, take, slice_get, arith, add-one}
 use Rattle.std.proofs.lemmas.List.{reverse-append}
 use Rattle.std.specs.Option.{option_map}
-use Rattle.hb_tree.specs.Tree.{Tree}
-use Rattle.hb_tree.specs.Counts.{height, highest}
 use Rattle.hb_draft.specs.Unfinished.{forest_of}
+use Rattle.hb_tree.specs.{Tree.Tree, Counts.height, Counts.highest}
 
 abbrev pub tallest : List Tree → ℕ
 tallest [] = 0

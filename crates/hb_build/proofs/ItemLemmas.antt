@@ -2,14 +2,12 @@
 use Rattle.std.proofs.Common.{◌≡◌, ◌≤◌, ◌+◌, List, ◌∷◌, length, sym, ap, ap₂, ◌∙◌, arith, subst}
 use Rattle.hb_tree.specs.Tree.{Tree, IsExpr}
 use Rattle.hb_draft.specs.Unfinished.{in_hand}
-use Rattle.hb_build.specs.declared.builder.Builder.{Builder}
-use Rattle.hb_build.specs.declared.held.Held.{Held}
+use Rattle.hb_build.proofs.{PushLemmas.KeepsRest, TakeLemmas.top-operand}
+use Rattle.hb_build.specs.declared.{builder.Builder.Builder, held.Held.Held}
 use Rattle.hb_build.specs.declared.held.Held.TheVariants as held
 use Rattle.hb_build.specs.Pile.{Slot, Operand, piled}
 use Rattle.hb_build.specs.Sound.{IsSound, IsGood, trees_in, things_of, pile_of, work_of}
 use Rattle.hb_build.specs.Acts.{Work, Answer, Lost, with_operand}
-use Rattle.hb_build.proofs.PushLemmas.{KeepsRest}
-use Rattle.hb_build.proofs.TakeLemmas.{top-operand}
 use Rattle.hb_build.proofs.RelaidLemmas.{IsSameCount, sound-relaid, work-relaid}
 
 -- an expression lies on top

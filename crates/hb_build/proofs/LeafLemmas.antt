@@ -3,28 +3,24 @@ use Rattle.std.proofs.Common.{◌≡◌, ℕ, ◌≤◌, ◌<◌, List, [], ◌�
 use Rattle.std.specs.Prelude.{nat_lt}
 use Rattle.std.proofs.lemmas.Bool.{cases_Bool, cond-true, cond-false, ltb-false}
 use Rattle.std.proofs.lemmas.List.{append-nil}
-use Rattle.hb_types.specs.declared.ids.ClassId.{ClassId}
-use Rattle.hb_types.specs.declared.ids.NameId.{NameId}
+use Rattle.hb_types.specs.declared.{ids.ClassId.ClassId, ids.NameId.NameId}
+use Rattle.hb_lex.specs.{Literal.value_of_number}
 use Rattle.hb_lex.specs.declared.kinds.TokenKind.TheVariants as k
-use Rattle.hb_lex.specs.Literal.{value_of_number}
 use Rattle.hb_tree.specs.Tree.{Tree, TText, IsExpr}
 use Rattle.hb_tree.specs.Counts.{height, nodes_in, calls_in, names_assigned_in}
 use Rattle.hb_draft.specs.Unfinished.{Unfinished, in_hand, scripts_in, leaf_over}
 use Rattle.hb_draft.specs.Words.{with_word}
 use Rattle.hb_draft.specs.Made.{Made, made_of, word_number, with_text}
-use Rattle.hb_build.specs.Said.{said_of}
-use Rattle.hb_build.specs.declared.builder.Builder.{Builder}
-use Rattle.hb_build.specs.declared.held.Held.{Held}
+use Rattle.hb_build.specs.{Said.said_of, Needs.IsOfKind}
+use Rattle.hb_build.specs.declared.{builder.Builder.Builder, held.Held.Held, held.Spot.Spot, faults.ParseFail.ParseFail}
 use Rattle.hb_build.specs.declared.held.Held.TheVariants as held
-use Rattle.hb_build.specs.declared.held.Spot.{Spot}
-use Rattle.hb_build.specs.declared.faults.ParseFail.{ParseFail}
 use Rattle.hb_build.specs.declared.faults.ParseFail.TheVariants as fail
 use Rattle.hb_build.specs.declared.faults.Limit.TheVariants as limit
 use Rattle.hb_build.specs.Pile.{Slot, Operand, Word, OfClass, piled, is_full, names_since}
 use Rattle.hb_build.specs.Acts.{Work, Answer, Goes, Fails, complete, passed, leaf}
-use Rattle.hb_build.specs.Needs.{IsOfKind}
 use Rattle.hb_build.specs.Sound.{things_of, pile_of, work_of, trees_in, IsGood, IsSound, with_node}
-use Rattle.hb_build.proofs.NodeLemmas.{IsOneMore, IsPut, IsWithin, within, node-goes, complete-fails, is_over, sound-put, pushed}
+use Rattle.hb_build.proofs.NodeLemmas.{IsOneMore, IsPut, IsWithin, within, node-goes, complete-fails, is_over, sound-put, pushed, some_not_none}
+use Rattle.hb_lex.specs.Sizes.{greatest_number}
 
 -- what a node without parts counts
 pub record IsLeaf (make : ℕ → Tree) : Type 0 where
@@ -127,14 +123,11 @@ leaf-room p make w room = cond-false (is_full w.pile) _ _ room
 
 -- ── literals ──
 
-some_not_none : {X : Type 0} {x : X} → Some x ≡ None → ⊥
-some_not_none e = cc
-
 -- a number is no greater than the greatest
-pub number-small : (bytes : List ℕ) → IsOfKind k.Number bytes → value_of_number bytes ≤ 9223372036854775807
-number-small bytes is = elim (cases_Bool (nat_lt 9223372036854775807 (value_of_number bytes))) [
-  | inl over ↦ absurd (some_not_none (sym (cond-true (nat_lt 9223372036854775807 (value_of_number bytes)) _ _ over) ∙ is.small))
-  | inr within ↦ omega (arith, ltb-false 9223372036854775807 (value_of_number bytes) within)
+pub number-small : (bytes : List ℕ) → IsOfKind k.Number bytes → value_of_number bytes ≤ greatest_number
+number-small bytes is = elim (cases_Bool (nat_lt greatest_number (value_of_number bytes))) [
+  | inl over ↦ absurd (some_not_none (sym (cond-true (nat_lt greatest_number (value_of_number bytes)) _ _ over) ∙ is.small))
+  | inr within ↦ omega (arith, ltb-false greatest_number (value_of_number bytes) within)
 ]
 
 -- the work with this text numbered

@@ -1,13 +1,9 @@
 -- Things that have no tree in hand and mark no scope, and those of them that count for nothing.
 use Rattle.std.proofs.Common.{◌≡◌, ℕ, List, ◌∷◌, refl, sym, ◌∙◌, ap}
-use Rattle.std.specs.Prelude.{nat_eq}
-use Rattle.std.specs.Set.{is_member}
-use Rattle.hb_types.specs.declared.ids.ClassId.{ClassId}
-use Rattle.hb_types.specs.declared.ids.NameId.{NameId}
-use Rattle.hb_types.specs.declared.types.Ty.{Ty}
-use Rattle.hb_build.specs.declared.builder.Scope.{Scope}
+use Rattle.std.specs.{Prelude.nat_eq, Set.is_member}
+use Rattle.hb_types.specs.declared.{ids.ClassId.ClassId, ids.NameId.NameId, types.Ty.Ty}
+use Rattle.hb_build.specs.declared.{builder.Scope.Scope, held.Spot.Spot}
 use Rattle.hb_build.specs.declared.held.Held.TheVariants as held
-use Rattle.hb_build.specs.declared.held.Spot.{Spot}
 use Rattle.hb_build.specs.Pile.{Slot, Own, Word, Target, Called, OfClass, Named, Parameter, OfType, ParameterType, Block, in_body, nodes_since, calls_since, names_since}
 use Rattle.hb_build.specs.Sound.{IsCount}
 use Rattle.hb_build.proofs.PushLemmas.{IsLight}

@@ -71,7 +71,7 @@ run-over thing slot is (suc n) (t ∷ things) (e ∷ hand) all fits matched =
     let m : trees_in (thing ∷ things) ≤ length (e ∷ hand) = subst (λ (x : Held). trees_in (x ∷ things) ≤ length (e ∷ hand)) all.0 matched in
     let r : Over slot (piled things hand) (reverse (take n hand)) (piled (drop n things) (drop n hand)) = run-over thing slot is n things hand all.1 (omega (arith, fits)) (omega (arith, m, is.trees things)) in
     let more : Over slot (slot e ∷ piled things hand) (reverse (take n hand) ++ e ∷ []) (piled (drop n things) (drop n hand)) = More e (piled things hand) (reverse (take n hand))
-         (piled (drop n things) (drop n hand)) r in
+    (piled (drop n things) (drop n hand)) r in
     let front : piled (t ∷ things) (e ∷ hand) ≡ slot e ∷ piled things hand = ap (λ (x : Held). piled (x ∷ things) (e ∷ hand)) all.0 ∙ is.pile things e hand in
     subst (λ (x : List Slot). Over slot x (reverse (take (suc n) (e ∷ hand))) (piled (drop n things) (drop n hand))) (sym front)
     (subst (λ (x : List Tree). Over slot (slot e ∷ piled things hand) x (piled (drop n things) (drop n hand))) (sym (reverse-append (e ∷ []) (take n hand))) more)

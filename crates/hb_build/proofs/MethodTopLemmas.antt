@@ -3,12 +3,9 @@ use Rattle.std.proofs.Common.{◌≡◌, ℕ, List, ◌∷◌, sym, ap, ◌∙�
 use Rattle.hb_types.specs.declared.ids.ClassId.{ClassId}
 use Rattle.hb_tree.specs.Tree.{Tree}
 use Rattle.hb_draft.specs.Unfinished.{in_hand}
-use Rattle.hb_build.specs.declared.builder.Builder.{Builder}
-use Rattle.hb_build.specs.declared.held.Held.{Held}
+use Rattle.hb_build.specs.{Pile.Slot, Sound.things_of, Sound.pile_of}
+use Rattle.hb_build.specs.declared.{builder.Builder.Builder, held.Held.Held, held.Spot.Spot}
 use Rattle.hb_build.specs.declared.held.Held.TheVariants as held
-use Rattle.hb_build.specs.declared.held.Spot.{Spot}
-use Rattle.hb_build.specs.Pile.{Slot}
-use Rattle.hb_build.specs.Sound.{things_of, pile_of}
 use Rattle.hb_build.specs.Acts.{Answer, Lost, with_operand, with_class}
 use Rattle.hb_build.proofs.TakeLemmas.{top-operand, top-class}
 

@@ -9,8 +9,7 @@ use Rattle.hb_draft.proofs.WordLists.{with_word-length}
 use Rattle.hb_types.specs.declared.types.Ty.TheVariants as ty
 use Rattle.hb_grammar.specs.declared.actions.Action.{Action}
 use Rattle.hb_grammar.specs.declared.actions.Action.TheVariants as a
-use Rattle.hb_build.specs.declared.held.Spot.{Spot}
-use Rattle.hb_build.specs.declared.faults.ParseFail.{ParseFail}
+use Rattle.hb_build.specs.declared.{held.Spot.Spot, faults.ParseFail.ParseFail}
 use Rattle.hb_build.specs.Needs.{needs}
 use Rattle.hb_build.specs.Pile.{Slot, Operand, Closed, Own, Declaring, Word, Target, Called, OfClass, Named, Computed, OfType, Block, Body, Setup, Script}
 use Rattle.hb_build.specs.Acts.{Work, Answer, Goes, with_operand, with_closed, with_own, with_declaring, with_name, with_target, with_called, with_class, with_type, with_block}
@@ -101,47 +100,30 @@ abbrev pub named : Option TokenKind → List ℕ → List (List ℕ) → List (L
 named (Some k.Name) bytes names = with_word names bytes
 named _ bytes names = names
 
+ruleset acting = (
+  names-fails_if,
+  names-closed,
+  names-setup,
+  names-script,
+  names-block,
+  names-complete,
+  names-operand,
+  names-name,
+  names-known,
+  names-class,
+  names-type,
+  names-target,
+  names-own,
+  names-called,
+  names-body,
+  names-method,
+  names-declaring,
+)
+
 module _ (p : Spot) (bytes : List ℕ) (w : Work) where
   acts-name : (done : Action) → Names (named (needs done) bytes w.said.names) (act done p bytes w)
-  acts-name a.DeclareClass = search names-fails_if
-  acts-name a.EndSetup = search (names-closed, names-setup)
-  acts-name a.BeginScript = search names-fails_if
-  acts-name a.EndScript = search (names-closed, names-script, names-fails_if)
-  acts-name a.EndBlock = search (names-block, names-complete)
-  acts-name a.AddItem = search names-operand
-  acts-name a.Open = search names-fails_if
-  acts-name a.OpenWord = search names-fails_if
-  acts-name a.OpenAssign = search (names-name, names-fails_if)
-  acts-name a.HoldStr = search names-fails_if
-  acts-name a.HoldDeclare = search names-fails_if
-  acts-name a.HoldName = search names-fails_if
-  acts-name a.HoldCall = search names-fails_if
-  acts-name a.HoldClass = search (names-known, names-fails_if)
-  acts-name a.NameMethod = search names-class
-  acts-name a.ComputeMethod = search (names-operand, names-class)
-  acts-name a.HoldParameter = search names-fails_if
   acts-name (a.HoldType (ty.Class c)) = tt
-  acts-name a.HoldClassType = search names-known
-  acts-name a.AddParameterType = search (names-type, names-fails_if)
-  acts-name a.AddArgument = search (names-operand, names-fails_if)
-  acts-name a.PutNil = search (names-fails_if, names-complete)
-  acts-name (a.PutBoolean b) = search (names-fails_if, names-complete)
-  acts-name a.PutSelf = search (names-fails_if, names-complete)
-  acts-name a.PutNumber = search (names-fails_if, names-complete)
-  acts-name a.PutText = search (names-fails_if, names-complete)
-  acts-name a.PutVariable = search (names-name, names-complete)
-  acts-name a.PutNew = search (names-class, names-complete)
-  acts-name a.PutAssign = search (names-operand, names-target, names-complete)
-  acts-name a.PutPrint = search (names-operand, names-own, names-complete)
-  acts-name a.PutStr = search (names-operand, names-own, names-complete)
-  acts-name a.PutNot = search (names-operand, names-own, names-complete)
-  acts-name (a.PutBinary op) = search (names-operand, names-own, names-complete)
-  acts-name a.PutIf = search (names-closed, names-operand, names-own, names-complete)
-  acts-name a.PutWhile = search (names-closed, names-operand, names-own, names-complete)
-  acts-name a.PutCall = search (names-called, names-operand, names-complete)
-  acts-name a.PutDef = search (names-closed, names-body, names-method, names-own, names-complete)
-  acts-name (a.PutDeclare asks) = search (names-type, names-method, names-declaring, names-complete)
-  acts-name _ = refl
+  acts-name _ = search acting
 
 -- ── how many ──
 

@@ -1,25 +1,15 @@
 -- A node is complete: the limits that it may pass, and what holds of the builder then.
 use Rattle.std.proofs.Common.{◌≡◌, ℕ, ◌+◌, ◌<◌, ◌≤◌, List, [], ◌∷◌, ◌++◌, Bool, true, false, ◌&&◌, nat_eq, Option, Some, None, sym, ◌∙◌, ap, ap₂, inl, inr, length, reverse, arith, Result, Ok, Err}
-use Rattle.std.specs.Prelude.{nat_le, nat_lt}
-use Rattle.std.specs.Set.{is_member}
+use Rattle.std.specs.{Prelude.nat_le, Prelude.nat_lt, Set.is_member}
 use Rattle.std.proofs.lemmas.Bool.{cases_Bool, cond-true, cond-false, ltb-false, leb-false}
-use Rattle.std.proofs.lemmas.List.{length-map, reverse-append}
+use Rattle.std.proofs.{lemmas.List.length-map, lemmas.List.reverse-append, lemmas.Result.err_from_is_err_and}
+use Rattle.hb_tree.specs.{Tree.Tree, Counts.height}
 use Rattle.hb_tree.specs.declared.limits.TheConstants.{HEIGHT_MAX, NODES_MAX, NODES_IN_BODY_MAX}
-use Rattle.hb_tree.specs.Tree.{Tree}
-use Rattle.hb_tree.specs.Counts.{height}
-use Rattle.hb_draft.specs.Unfinished.{Unfinished, in_hand, scripts_in}
-use Rattle.hb_draft.specs.Made.{Made, made_of, place_of}
-use Rattle.hb_draft.specs.Made.{with_node as with_made}
-use Rattle.hb_build.specs.Said.{Said, said_of}
-use Rattle.hb_build.specs.declared.builder.Builder.{Builder}
-use Rattle.hb_build.specs.declared.builder.Scope.{Scope}
-use Rattle.hb_build.specs.declared.held.Held.{Held}
-use Rattle.hb_build.specs.declared.held.Spot.{Spot}
-use Rattle.hb_build.specs.declared.faults.ParseFail.{ParseFail}
+use Rattle.hb_draft.specs.{Unfinished.Unfinished, Unfinished.in_hand, Unfinished.scripts_in, Made.Made, Made.made_of, Made.place_of, Made.with_node as with_made}
+use Rattle.hb_build.specs.{Said.Said, Said.said_of, Answers.Answers}
+use Rattle.hb_build.specs.declared.{builder.Builder.Builder, builder.Scope.Scope, held.Held.Held, held.Spot.Spot, faults.ParseFail.ParseFail}
 use Rattle.hb_build.specs.declared.faults.ParseFail.TheVariants as fail
 use Rattle.std.specs.Prelude.{IsErrAnd, OnOk, OnErr}
-use Rattle.std.proofs.lemmas.Result.{err_from_is_err_and}
-use Rattle.hb_build.specs.Answers.{Answers}
 use Rattle.hb_build.specs.Pile.{Slot, piled, in_body, nodes_since, calls_since, names_since, declaring, has_too_many_nodes}
 use Rattle.hb_build.specs.Acts.{Work, Answer, Goes, Fails, complete, passed, unless}
 use Rattle.hb_build.specs.Sound.{things_of, pile_of, work_of, trees_in, IsGood, outside, marks, IsCount, IsSound, with_node}
@@ -31,7 +21,7 @@ pub record IsWithin (height nodes : ℕ) (many : Bool) : Type 0 where
   pub room : nodes < NODES_MAX
   pub few : many ≡ false
 
-some_not_none : {X : Type 0} {x : X} → Some x ≡ None → ⊥
+pub some_not_none : {X : Type 0} {x : X} → Some x ≡ None → ⊥
 some_not_none e = cc
 
 pub within : (h n : ℕ) (m : Bool) (at : ℕ) → passed h n m at ≡ None → IsWithin h n m

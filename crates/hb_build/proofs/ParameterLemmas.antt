@@ -1,8 +1,7 @@
 -- The parameters on top of what is not yet used, and the types of parameters there.
 use Rattle.std.proofs.Common.{◌≡◌, ℕ, suc, zero, ◌+◌, ◌-◌, ◌<◌, ◌≤◌, List, [], ◌∷◌, ◌++◌, length, drop, reverse, get_or, refl, sym, ◌∙◌, ap, take, arith, add-one, length-append, drop-cons}
 use Rattle.std.proofs.lemmas.List.{get_or-reverse, length-reverse, get_or-take, get_or-drop, length-take, length-drop}
-use Rattle.hb_types.specs.declared.ids.NameId.{NameId}
-use Rattle.hb_types.specs.declared.types.Ty.{Ty}
+use Rattle.hb_types.specs.declared.{ids.NameId.NameId, types.Ty.Ty}
 use Rattle.hb_build.specs.declared.held.Held.{Held}
 use Rattle.hb_build.specs.declared.held.Held.TheVariants as held
 use Rattle.hb_build.specs.Sound.{parameters_of, parameter_types_of}

@@ -1,10 +1,7 @@
 -- What a good pile says of the parameters on top of it.
 use Rattle.std.proofs.Common.{ℕ, ◌<◌, ◌≤◌, List, [], ◌∷◌, length, arith}
-use Rattle.std.specs.Prelude.{nat_eq}
-use Rattle.std.specs.Cmp.{nat_eq_equiv}
-use Rattle.std.specs.List.{IsDistinct, AllByRecursion}
-use Rattle.std.proofs.lemmas.List.{length_push}
-use Rattle.std.proofs.lemmas.Map.Keys.{IsDistinct-push}
+use Rattle.std.specs.{Prelude.nat_eq, Cmp.nat_eq_equiv, List.IsDistinct, List.AllByRecursion}
+use Rattle.std.proofs.{lemmas.List.length_push, lemmas.Map.Keys.IsDistinct-push}
 use Rattle.hb_types.specs.declared.types.TheConstants.{PARAMS_MAX}
 use Rattle.hb_draft.proofs.Lists.{each-append}
 use Rattle.hb_build.specs.Pile.{Slot, Parameter, ParameterType, parameters_on, below_parameters, types_on, below_types}

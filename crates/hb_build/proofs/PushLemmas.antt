@@ -2,15 +2,12 @@
 use Rattle.std.proofs.Common.{◌≡◌, ℕ, List, [], ◌∷◌, ◌++◌, length, map, reverse, sym, ap, ap₂, ◌∙◌, arith, subst}
 use Rattle.std.proofs.lemmas.List.{reverse-append}
 use Rattle.hb_tree.specs.Tree.{Tree}
-use Rattle.hb_draft.specs.Unfinished.{in_hand, scripts_in}
-use Rattle.hb_draft.specs.Made.{made_of}
+use Rattle.hb_draft.specs.{Unfinished.in_hand, Unfinished.scripts_in, Made.made_of}
 use Rattle.hb_draft.specs.declared.draft.Draft.{Draft}
-use Rattle.hb_build.specs.declared.builder.Builder.{Builder}
-use Rattle.hb_build.specs.declared.held.Held.{Held}
+use Rattle.hb_build.specs.{Said.said_of, Acts.Work, Acts.push}
+use Rattle.hb_build.specs.declared.{builder.Builder.Builder, held.Held.Held}
 use Rattle.hb_build.specs.Pile.{Slot, piled, declaring}
 use Rattle.hb_build.specs.Sound.{IsSound, IsGood, IsCount, AreCounts, outside, marks, trees_in, things_of, pile_of, work_of, numbers}
-use Rattle.hb_build.specs.Said.{said_of}
-use Rattle.hb_build.specs.Acts.{Work, push}
 
 -- the slot of a thing that has no tree in hand, marks no scope and is no declaration to come
 pub record IsLight (thing : Held) (slot : Slot) : Type 0 where

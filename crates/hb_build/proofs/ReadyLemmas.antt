@@ -2,19 +2,14 @@
 use Rattle.std.proofs.Common.{◌≡◌, ℕ, ◌+◌, ◌≤◌, List, [], ◌∷◌, ◌++◌, Option, Some, None, length, refl, sym, subst, arith}
 use Rattle.hb_lex.specs.declared.kinds.TokenKind.{TokenKind}
 use Rattle.hb_lex.specs.declared.kinds.TokenKind.TheVariants as k
-use Rattle.hb_grammar.specs.declared.actions.Action.{Action}
-use Rattle.hb_grammar.specs.declared.symbols.Sort.{Sort}
-use Rattle.hb_grammar.specs.declared.symbols.Symbol.{Symbol}
-use Rattle.hb_grammar.specs.declared.symbols.Symbol.TheVariants.{Token as T, Phrase as N, Action as A}
-use Rattle.hb_grammar.specs.Grammar.{alternatives}
-use Rattle.hb_grammar.specs.Language.{IsOneOf, program}
+use Rattle.hb_grammar.specs.{Grammar.alternatives, Language.IsOneOf, Language.program}
+use Rattle.hb_grammar.specs.declared.{actions.Action.Action, symbols.Sort.Sort, symbols.Symbol.Symbol, symbols.Symbol.TheVariants.Token as T}
+use Rattle.hb_grammar.specs.declared.{symbols.Symbol.TheVariants.Phrase as N, symbols.Symbol.TheVariants.Action as A}
 use Rattle.hb_draft.proofs.WordLists.{with_word-length}
+use Rattle.hb_build.specs.{Needs.needs, Needs.HasToken, Pile.Slot, Ready.Ready, Ready.to_come}
 use Rattle.hb_build.specs.declared.held.Spot.{Spot}
 use Rattle.hb_build.specs.Acts.{Work, Goes, Lost, act}
-use Rattle.hb_build.specs.Needs.{needs, HasToken}
-use Rattle.hb_build.specs.Pile.{Slot}
 use Rattle.hb_build.specs.Fits.{IsRead, unused, Stands}
-use Rattle.hb_build.specs.Ready.{Ready, to_come}
 use Rattle.hb_build.proofs.FitLemmas.{fits-program, fits-token, fits-phrase, fits-has_token, fits-found, fits-goes}
 use Rattle.hb_build.proofs.NameLemmas.{named, names-after}
 

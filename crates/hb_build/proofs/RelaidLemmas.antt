@@ -1,18 +1,13 @@
 -- A builder stays sound when what lies on top is used for something else, and nothing that is counted changes.
 use Rattle.std.proofs.Common.{◌≡◌, ℕ, ◌≤◌, List, length, sym, ap, ap₂, ◌∙◌, arith, subst}
-use Rattle.std.specs.Prelude.{nat_eq}
-use Rattle.std.specs.Set.{is_member}
+use Rattle.std.specs.{Prelude.nat_eq, Set.is_member}
 use Rattle.hb_tree.specs.Tree.{Tree}
-use Rattle.hb_draft.specs.Unfinished.{in_hand}
-use Rattle.hb_draft.specs.Made.{made_of}
+use Rattle.hb_draft.specs.{Unfinished.in_hand, Made.made_of}
 use Rattle.hb_draft.specs.declared.draft.Draft.{Draft}
-use Rattle.hb_build.specs.declared.builder.Builder.{Builder}
-use Rattle.hb_build.specs.declared.builder.Scope.{Scope}
-use Rattle.hb_build.specs.declared.held.Held.{Held}
+use Rattle.hb_build.specs.{Said.said_of, Acts.Work}
+use Rattle.hb_build.specs.declared.{builder.Builder.Builder, builder.Scope.Scope, held.Held.Held}
 use Rattle.hb_build.specs.Pile.{Slot, piled, in_body, nodes_since, calls_since, names_since, declaring}
 use Rattle.hb_build.specs.Sound.{IsSound, IsGood, IsCount, outside, marks, trees_in, things_of, pile_of, work_of}
-use Rattle.hb_build.specs.Said.{said_of}
-use Rattle.hb_build.specs.Acts.{Work}
 use Rattle.hb_build.proofs.PushLemmas.{KeepsRest}
 
 -- all that is counted is the same

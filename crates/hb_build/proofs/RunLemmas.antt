@@ -1,9 +1,12 @@
 -- How long the run of one thing on top of a pile is.
 use Rattle.std.proofs.Common.{◌≡◌, ◌≤◌, ◌+◌, ◌<◌, ◌-◌, ℕ, List, [], ◌∷◌, Some, length, take, reverse, get_or, arith, subst, sym, ◌∙◌}
 use Rattle.std.specs.List.{AllByRecursion, slice_get}
-use Rattle.std.proofs.lemmas.List.{take_more, get_or-reverse, length-reverse}
-use Rattle.std.proofs.lemmas.Option.{get_or_from_slice_get, slice_get_within}
+use Rattle.std.proofs.{lemmas.List.take_more, lemmas.List.get_or-reverse, lemmas.List.length-reverse, lemmas.Option.get_or_from_slice_get, lemmas.Option.slice_get_within}
 use Rattle.hb_draft.proofs.Lists.{each-append}
+
+-- lists that are equal go on alike
+pub tail : {X : Type 0} {x y : X} {xs ys : List X} → x ∷ xs ≡ y ∷ ys → xs ≡ ys
+tail e = cc
 
 -- one more of the last things is this one
 pub run-more : {X : Type 0} (xs : List X) (k : ℕ) (x d : X) → k < length xs → get_or xs (length xs - 1 - k) d ≡ x

@@ -1,20 +1,12 @@
 -- What a scope counts when a call or an assignment to come is put on the pile.
 use Rattle.std.proofs.Common.{◌≡◌, ℕ, ◌<◌, ◌+◌, List, [], ◌∷◌, ◌++◌, Bool, true, false, length, refl, sym, ap, ap₂, ◌∙◌, arith, subst, inl, inr}
 use Rattle.std.specs.Prelude.{◌&&◌, ◌||◌, nat_le, nat_lt, nat_eq}
-use Rattle.std.specs.Cmp.{nat_eq_equiv}
-use Rattle.std.specs.List.{IsDistinct, list_any}
-use Rattle.std.specs.Set.{is_member, distinct_count}
-use Rattle.std.proofs.lemmas.List.{length_push, length-map}
-use Rattle.std.proofs.lemmas.List.Folds.{list_any-append}
-use Rattle.std.proofs.lemmas.Map.Keys.{IsDistinct-push}
-use Rattle.std.proofs.lemmas.Map.Made.{length-from_keys}
-use Rattle.std.proofs.lemmas.Map.Steps.{list_any_congr}
-use Rattle.std.proofs.lemmas.Bool.{cases_Bool, cond-true}
-use Rattle.std.proofs.lemmas.Bool.Decides.{nat_tests}
+use Rattle.std.specs.{Cmp.nat_eq_equiv, List.IsDistinct, List.list_any, Set.is_member, Set.distinct_count}
+use Rattle.std.proofs.{lemmas.List.length_push, lemmas.List.length-map, lemmas.List.Folds.list_any-append, lemmas.Map.Keys.IsDistinct-push, lemmas.Map.Made.length-from_keys}
+use Rattle.std.proofs.{lemmas.Map.Steps.list_any_congr, lemmas.Bool.cases_Bool, lemmas.Bool.cond-true, lemmas.Bool.Decides.nat_tests}
 use Rattle.hb_tree.specs.declared.limits.TheConstants.{CALLS_IN_BODY_MAX, VARIABLES_MAX}
 use Rattle.hb_types.specs.declared.ids.NameId.{NameId}
-use Rattle.hb_build.specs.declared.builder.Scope.{Scope}
-use Rattle.hb_build.specs.declared.held.Spot.{Spot}
+use Rattle.hb_build.specs.declared.{builder.Scope.Scope, held.Spot.Spot}
 use Rattle.hb_build.specs.Pile.{Slot, Called, Target, in_body, calls_since, names_since, has_too_many_calls, has_too_many_variables}
 use Rattle.hb_build.specs.Sound.{IsCount, Assigns, IsOneTooMany, numbers, with_call}
 

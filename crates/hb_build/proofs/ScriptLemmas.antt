@@ -1,19 +1,15 @@
 -- Whether a script has this name, and what lies on top where a script ends.
 use Rattle.std.proofs.Common.{◌≡◌, ℕ, List, ◌∷◌, map, sym, ap, ◌∙◌}
-use Rattle.std.specs.Prelude.{nat_eq}
-use Rattle.std.specs.List.{list_any}
+use Rattle.std.specs.{Prelude.nat_eq, List.list_any}
 use Rattle.hb_types.specs.declared.ids.NameId.{NameId}
 use Rattle.hb_tree.specs.Tree.{Tree}
 use Rattle.hb_draft.specs.Unfinished.{in_hand}
 use Rattle.hb_draft.proofs.WordLists.{list_any-map}
-use Rattle.hb_build.specs.declared.builder.Builder.{Builder}
-use Rattle.hb_build.specs.declared.held.Held.{Held}
+use Rattle.hb_build.proofs.{ScopeLemmas.is_member-numbers, TakeLemmas.top-closed, TakeLemmas.top-script}
+use Rattle.hb_build.specs.declared.{builder.Builder.Builder, held.Held.Held}
 use Rattle.hb_build.specs.declared.held.Held.TheVariants as held
-use Rattle.hb_build.specs.Pile.{Slot}
-use Rattle.hb_build.specs.Sound.{things_of, pile_of, numbers}
+use Rattle.hb_build.specs.{Pile.Slot, Sound.things_of, Sound.pile_of, Sound.numbers}
 use Rattle.hb_build.specs.Acts.{Answer, Lost, with_closed, with_script}
-use Rattle.hb_build.proofs.ScopeLemmas.{is_member-numbers}
-use Rattle.hb_build.proofs.TakeLemmas.{top-closed, top-script}
 
 pub any-named : (x : NameId) (names : List NameId) (scripts : List (ℕ × Tree)) → numbers names ≡ map (λ s. s.0) scripts
     → list_any (λ s. nat_eq x.0 s.0) scripts ≡ list_any (λ y. nat_eq y.0 x.0) names

@@ -2,14 +2,11 @@
 use Rattle.std.proofs.Common.{◌≡◌, List, ◌∷◌, refl, ap, ◌∙◌}
 use Rattle.hb_tree.specs.Tree.{Tree}
 use Rattle.hb_draft.specs.Unfinished.{in_hand}
-use Rattle.hb_build.specs.declared.builder.Builder.{Builder}
-use Rattle.hb_build.specs.declared.held.Held.{Held}
+use Rattle.hb_build.proofs.{TakeLemmas.top-closed, TakeLemmas.top-setup, BegunLemmas.IsMark}
+use Rattle.hb_build.specs.{Pile.Slot, Pile.Setup, Sound.things_of, Sound.pile_of}
+use Rattle.hb_build.specs.declared.{builder.Builder.Builder, held.Held.Held}
 use Rattle.hb_build.specs.declared.held.Held.TheVariants as held
-use Rattle.hb_build.specs.Pile.{Slot, Setup}
-use Rattle.hb_build.specs.Sound.{things_of, pile_of}
 use Rattle.hb_build.specs.Acts.{Answer, Lost, with_closed, with_setup}
-use Rattle.hb_build.proofs.TakeLemmas.{top-closed, top-setup}
-use Rattle.hb_build.proofs.BegunLemmas.{IsMark}
 
 pub record HasSetup (b : Builder) : Type 0 where
   pub rest : List Held

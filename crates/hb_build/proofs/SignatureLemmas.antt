@@ -1,33 +1,21 @@
 -- A declaration's types are taken off, and make the type of a method.
 use Rattle.std.proofs.Common.{◌≡◌, ℕ, zero, suc, ◌-◌, ◌≤◌, List, [], ◌∷◌, ◌++◌, refl, sym, ◌∙◌, ap, subst, length, take, drop, reverse, arith}
 use Rattle.std.specs.List.{AllByRecursion, All}
-use Rattle.std.proofs.lemmas.List.{length-reverse, length_push}
-use Rattle.std.proofs.lemmas.List.Elements.{All-nil, All-cons}
-use Rattle.hb_types.specs.declared.types.Ty.{Ty}
+use Rattle.std.proofs.{lemmas.List.length-reverse, lemmas.List.length_push, lemmas.List.Elements.All-nil, lemmas.List.Elements.All-cons}
+use Rattle.hb_types.specs.declared.{types.Ty.Ty, types.MethodTy.MethodTy, types.TheConstants.PARAMS_MAX, ids.ClassId.ClassId, ids.NameId.NameId}
 use Rattle.hb_types.specs.declared.types.Ty.TheVariants as ty
-use Rattle.hb_types.specs.declared.types.MethodTy.{MethodTy}
-use Rattle.hb_types.specs.declared.types.TheConstants.{PARAMS_MAX}
-use Rattle.hb_tree.specs.Table.{Table}
-use Rattle.hb_tree.specs.Program.{IsMethodTyIn, IsTyIn}
 use Rattle.hb_draft.specs.Unfinished.{in_hand}
-use Rattle.hb_build.specs.declared.builder.Builder.{Builder}
-use Rattle.hb_build.specs.declared.held.Held.{Held}
+use Rattle.hb_build.proofs.{PushLemmas.KeepsRest, PiledLemmas.types-piled, PiledLemmas.below-types-piled, ParameterLemmas.few-types-on, TruncateLemmas.reverse-take}
+use Rattle.hb_build.specs.declared.{builder.Builder.Builder, held.Held.Held, held.Spot.Spot}
 use Rattle.hb_build.specs.declared.held.Held.TheVariants as held
 use Rattle.hb_build.specs.Pile.{Slot, Operand, OfType, ParameterType, piled, types_on, below_types}
 use Rattle.hb_build.specs.Acts.{Work, Lost, filled, method_ty, declare, with_type, with_declaring, complete, typing}
-use Rattle.hb_build.specs.declared.held.Spot.{Spot}
-use Rattle.hb_types.specs.declared.ids.ClassId.{ClassId}
-use Rattle.hb_types.specs.declared.ids.NameId.{NameId}
-use Rattle.hb_tree.specs.Tree.{TDeclare, TDeclareComputed}
 use Rattle.std.proofs.Common.{Bool, true, false, ap₂}
 use Rattle.hb_build.proofs.TakeLemmas.{top-method, Plainly, Computedly, top-declaring}
 use Rattle.hb_build.specs.Sound.{IsSound, IsGood, IsTy, things_of, pile_of, trees_in, parameter_types_of, is_named}
-use Rattle.hb_build.proofs.PushLemmas.{KeepsRest}
-use Rattle.hb_build.proofs.ParamsLemmas.{types-few, types-known, below-types-good}
-use Rattle.hb_build.proofs.PiledLemmas.{types-piled, below-types-piled}
-use Rattle.hb_build.proofs.ParameterLemmas.{few-types-on}
-use Rattle.hb_build.proofs.TruncateLemmas.{reverse-take}
-use Rattle.hb_build.proofs.RelaidLemmas.{IsSameCount, good-was, sound-becomes}
+use Rattle.hb_build.proofs.{ParamsLemmas.types-few, ParamsLemmas.types-known, ParamsLemmas.below-types-good, RelaidLemmas.IsSameCount, RelaidLemmas.good-was}
+use Rattle.hb_build.proofs.{RelaidLemmas.sound-becomes}
+use Rattle.hb_tree.specs.{Table.Table, Program.IsMethodTyIn, Program.IsTyIn, Tree.TDeclare, Tree.TDeclareComputed}
 
 -- ── the type ──
 

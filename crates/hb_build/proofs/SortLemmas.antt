@@ -1,15 +1,12 @@
 -- Each alternative of a sort leads from the tags that the sort takes to those that it leaves, by computing.
 use Rattle.std.proofs.Common.{◌≡◌, List, [], ◌∷◌, ◌++◌, true, Option, Some, None, inl, inr, refl, sym, subst, true≢false, ap₂}
-use Rattle.std.specs.List.{AllByRecursion}
-use Rattle.std.specs.Option.{is_some}
+use Rattle.std.specs.{List.AllByRecursion, Option.is_some}
 use Rattle.hb_lex.specs.declared.kinds.TokenKind.{TokenKind}
 use Rattle.hb_lex.specs.declared.kinds.TokenKind.TheVariants as k
-use Rattle.hb_grammar.specs.declared.symbols.Sort.{Sort}
+use Rattle.hb_grammar.specs.{Grammar.alternatives, Language.IsOneOf}
+use Rattle.hb_grammar.specs.declared.{symbols.Sort.Sort, symbols.Symbol.Symbol, symbols.Symbol.TheVariants.Token as T, symbols.Symbol.TheVariants.Phrase as N}
+use Rattle.hb_grammar.specs.declared.{symbols.Symbol.TheVariants.Action as A}
 use Rattle.hb_grammar.specs.declared.symbols.Sort.TheVariants as g
-use Rattle.hb_grammar.specs.declared.symbols.Symbol.{Symbol}
-use Rattle.hb_grammar.specs.declared.symbols.Symbol.TheVariants.{Token as T, Phrase as N, Action as A}
-use Rattle.hb_grammar.specs.Grammar.{alternatives}
-use Rattle.hb_grammar.specs.Language.{IsOneOf}
 use Rattle.hb_build.specs.Needs.{needs}
 use Rattle.hb_build.specs.Tags.{Tag, Operand, Closed, Own, Declaring, Word, Target, OfClass, OfType, Items, Arguments, Method, Body, Setup, Script, taken_by, left_by, takes, leaves}
 use Rattle.hb_build.specs.Fits.{State, IsRead, unused, Leads}

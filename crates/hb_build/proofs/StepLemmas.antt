@@ -1,17 +1,12 @@
 -- A step that completes a node: what it answers, in one place for all nodes.
 use Rattle.std.proofs.Common.{◌≡◌, ℕ, ◌+◌, ◌≤◌, List, [], ◌∷◌, ◌++◌, Some, None, sym, ◌∙◌, subst, length}
-use Rattle.hb_tree.specs.Tree.{Tree}
-use Rattle.hb_tree.specs.Counts.{height}
 use Rattle.hb_draft.specs.Made.{made_of}
-use Rattle.hb_build.specs.Said.{said_of}
-use Rattle.hb_build.specs.declared.builder.Builder.{Builder}
-use Rattle.hb_build.specs.declared.held.Held.{Held}
-use Rattle.hb_build.specs.declared.held.Spot.{Spot}
-use Rattle.hb_build.specs.declared.faults.ParseFail.{ParseFail}
-use Rattle.hb_build.specs.Pile.{Slot, piled}
+use Rattle.hb_build.specs.{Said.said_of, Pile.Slot, Pile.piled}
+use Rattle.hb_build.specs.declared.{builder.Builder.Builder, held.Held.Held, held.Spot.Spot, faults.ParseFail.ParseFail}
 use Rattle.hb_build.specs.Acts.{Work, Answer, Goes, Fails, complete, passed}
 use Rattle.hb_build.specs.Sound.{pile_of, work_of, trees_in, IsGood, IsSound}
 use Rattle.hb_build.proofs.NodeLemmas.{IsOneMore, IsPut, IsWithin, within, node-goes, complete-fails, is_over, sound-put}
+use Rattle.hb_tree.specs.{Tree.Tree, Counts.height}
 
 -- The answer is that of a complete node with its own token at p, whose highest part has this height. These things and
 -- trees are left, the node on top.

@@ -1,12 +1,9 @@
 -- Where an action is not lost, what it takes lies on top.
 use Rattle.std.proofs.Common.{◌≡◌, ℕ, List, [], ◌∷◌, refl}
-use Rattle.hb_types.specs.declared.ids.ClassId.{ClassId}
-use Rattle.hb_types.specs.declared.ids.NameId.{NameId}
-use Rattle.hb_types.specs.declared.types.Ty.{Ty}
+use Rattle.hb_types.specs.declared.{ids.ClassId.ClassId, ids.NameId.NameId, types.Ty.Ty}
 use Rattle.hb_tree.specs.Tree.{Tree}
-use Rattle.hb_build.specs.declared.held.Held.{Held}
+use Rattle.hb_build.specs.declared.{held.Held.Held, held.Spot.Spot}
 use Rattle.hb_build.specs.declared.held.Held.TheVariants as held
-use Rattle.hb_build.specs.declared.held.Spot.{Spot}
 use Rattle.hb_build.specs.Pile.{Slot, piled}
 use Rattle.hb_build.specs.Acts.{Answer, Lost, with_operand, with_closed, with_own, with_declaring, with_name, with_target, with_called, with_class, with_type, with_block, with_body, with_setup, with_script, with_method}
 

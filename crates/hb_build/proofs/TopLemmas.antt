@@ -2,15 +2,13 @@
 use Rattle.std.specs.Prelude.{ℕ, List, [], ◌∷◌, Bool, true, false, Option, Some, None, length}
 use Rattle.hb_types.specs.declared.types.Ty.{Ty}
 use Rattle.hb_tree.specs.Tree.{Tree}
-use Rattle.hb_build.specs.declared.held.Spot.{Spot}
-use Rattle.hb_build.specs.declared.faults.ParseFail.{ParseFail}
+use Rattle.hb_build.specs.{Tags.Tag, Fits.Stands}
+use Rattle.hb_build.specs.declared.{held.Spot.Spot, faults.ParseFail.ParseFail}
 use Rattle.hb_build.specs.Pile.{Slot, Operand, Closed, Item, Argument, Own, Declaring, Word, Target, Called, OfClass, Named, Computed, Parameter, OfType, ParameterType, Block}
 use Rattle.hb_build.specs.Pile.{Body, Setup, Script, below_items, below_arguments, below_parameters, below_types}
 use Rattle.hb_build.specs.Acts.{Work, Answer, Goes, Fails, Lost, with_operand, with_closed, with_own, with_declaring, with_name, with_target, with_called, with_class}
 use Rattle.hb_build.specs.Acts.{with_type, with_block, with_body, with_setup, with_script, with_method, with_known, fails_if, unless, complete}
-use Rattle.hb_build.specs.Tags.{Tag}
 use Rattle.hb_build.specs.Tags as tag
-use Rattle.hb_build.specs.Fits.{Stands}
 
 -- the answer is not lost, and where it goes on its pile stands
 abbrev pub Keeps : List Tag → Answer → Type 0

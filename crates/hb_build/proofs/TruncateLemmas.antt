@@ -10,10 +10,10 @@ pub reverse-take : {X : Type 0} (n : ℕ) (xs : List X) → n ≤ length xs → 
 reverse-take {X = X} n xs le =
     let k : ℕ = length xs - n in
     let cut : reverse xs ≡ reverse (drop (length xs - n) xs) ++ reverse (take (length xs - n) xs) = ap reverse (sym (take-append-drop (length xs - n) xs))
-         ∙ reverse-append (take (length xs - n) xs) (drop (length xs - n) xs) in
+    ∙ reverse-append (take (length xs - n) xs) (drop (length xs - n) xs) in
     let size : length (reverse (drop (length xs - n) xs)) ≡ n = length-reverse (drop (length xs - n) xs) ∙ length-drop (length xs - n) xs ∙ omega (arith, le) in
     sym (ap (λ (ys : List X). drop n ys) cut ∙ ap (λ (m : ℕ). drop m (reverse (drop (length xs - n) xs) ++ reverse (take (length xs - n) xs))) (sym size)
-        ∙ drop-front (reverse (drop (length xs - n) xs)) (reverse (take (length xs - n) xs)))
+    ∙ drop-front (reverse (drop (length xs - n) xs)) (reverse (take (length xs - n) xs)))
 
 pub slice_get-drop : {X : Type 0} (n : ℕ) (xs : List X) → slice_get (drop n xs) 0 ≡ slice_get xs n
 slice_get-drop zero xs = refl

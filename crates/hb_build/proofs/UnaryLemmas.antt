@@ -4,14 +4,10 @@ use Rattle.std.specs.Option.{option_map}
 use Rattle.hb_tree.specs.declared.limits.TheConstants.{HEIGHT_MAX}
 use Rattle.hb_tree.specs.Tree.{Tree, IsExpr}
 use Rattle.hb_tree.specs.Counts.{height, nodes_in, calls_in, names_assigned_in}
-use Rattle.hb_draft.specs.Unfinished.{in_hand, HasExprs, unary_over}
-use Rattle.hb_draft.specs.Made.{made_of}
+use Rattle.hb_draft.specs.{Unfinished.in_hand, Unfinished.HasExprs, Unfinished.unary_over, Made.made_of}
 use Rattle.hb_build.specs.Said.{said_of}
-use Rattle.hb_build.specs.declared.builder.Builder.{Builder}
-use Rattle.hb_build.specs.declared.held.Held.{Held}
+use Rattle.hb_build.specs.declared.{builder.Builder.Builder, held.Held.Held, held.Spot.Spot, faults.ParseFail.ParseFail}
 use Rattle.hb_build.specs.declared.held.Held.TheVariants as held
-use Rattle.hb_build.specs.declared.held.Spot.{Spot}
-use Rattle.hb_build.specs.declared.faults.ParseFail.{ParseFail}
 use Rattle.hb_build.specs.Pile.{Slot, Operand, Own, piled, names_since}
 use Rattle.hb_build.specs.Acts.{Work, Answer, Goes, Fails, Lost, complete, passed, with_operand, with_own}
 use Rattle.hb_build.specs.Sound.{things_of, pile_of, work_of, trees_in, IsGood, IsSound}
@@ -108,7 +104,7 @@ module _ (b : Builder) (sound : IsSound b) (op : ℕ → Tree → Tree) (is : Is
       let put : IsPut b new (held.Operand ∷ t.rest) (op (length (work_of b).said.places) t.e ∷ t.others) =
       subst (λ (x : List Tree). IsPut b new (held.Operand ∷ t.rest) (unary_over op (length (work_of b).said.places) x)) t.hand_is before in
       let sound-after : IsSound new = sound-put b new (held.Operand ∷ t.rest) (op (length (work_of b).said.places) t.e ∷ t.others) sound put (matched-after (length (work_of b).said.places))
-           (is.kind _ t.e, good_of.1) (more _) limits.few in (
+      (is.kind _ t.e, good_of.1) (more _) limits.few in (
         answer-is ∙ node-goes b sound t.spot (λ id. op id t.e) Operand (piled t.rest t.others) w places highest (high_is _) (more _) e new (held.Operand ∷ t.rest)
             (op (length (work_of b).said.places) t.e ∷ t.others) put refl place place_is said depth,
         sound-after,

@@ -1,18 +1,14 @@
 -- A loop: its condition and its block, over its own token.
 use Rattle.std.proofs.Common.{◌≡◌, ℕ, ◌≤◌, List, ◌∷◌, refl, sym, ◌∙◌, ap, ap₂, subst, length, max, arith, append_assoc}
-use Rattle.hb_tree.specs.Tree.{Tree, TWhile}
-use Rattle.hb_tree.specs.Counts.{height, highest, names_assigned_in}
+use Rattle.hb_tree.specs.{Tree.Tree, Tree.TWhile, Counts.height, Counts.highest, Counts.names_assigned_in}
 use Rattle.hb_draft.specs.Unfinished.{in_hand, forest_of, last_in}
-use Rattle.hb_build.specs.declared.builder.Builder.{Builder}
-use Rattle.hb_build.specs.declared.held.Held.{Held}
+use Rattle.hb_build.proofs.{NodeLemmas.IsOneMore, StepLemmas.IsStep}
+use Rattle.hb_build.specs.declared.{builder.Builder.Builder, held.Held.Held, held.Spot.Spot}
 use Rattle.hb_build.specs.declared.held.Held.TheVariants as held
-use Rattle.hb_build.specs.declared.held.Spot.{Spot}
 use Rattle.hb_build.specs.Pile.{Slot, Operand, Closed, Own, piled, names_since}
 use Rattle.hb_build.specs.Acts.{Work, Answer, Lost, complete, with_operand, with_closed, with_own}
 use Rattle.hb_build.specs.Sound.{things_of, pile_of, work_of, trees_in, IsGood, IsSound}
 use Rattle.hb_build.proofs.TakeLemmas.{top-operand, top-closed, top-own}
-use Rattle.hb_build.proofs.NodeLemmas.{IsOneMore}
-use Rattle.hb_build.proofs.StepLemmas.{IsStep}
 
 pub record WhileTop (b : Builder) : Type 0 where
   pub rest : List Held
@@ -29,8 +25,15 @@ while-top b go kept =
     let x0 = top-closed (things_of b) (in_hand b.draft) (λ block pile. with_operand pile (λ cond pile. with_own pile (λ q pile. go block cond q pile))) kept in
     let x1 = top-operand x0.0 x0.2 (λ cond pile. with_own pile (λ q pile. go x0.1 cond q pile)) x0.5 in
     let x2 = top-own x1.0 x1.2 (λ q pile. go x0.1 x1.1 q pile) x1.5 in
-    record { rest = x2.0; spot = x2.1; block = x0.1; cond = x1.1; others = x1.2;
-        things_are = x0.3 ∙ ap (λ (x : List Held). held.Closed ∷ x) (x1.3 ∙ ap (λ (x : List Held). held.Operand ∷ x) (x2.2)); hand_is = x0.4 ∙ ap (λ (x : List Tree). x0.1 ∷ x) (x1.4) }
+    record {
+      rest = x2.0;
+      spot = x2.1;
+      block = x0.1;
+      cond = x1.1;
+      others = x1.2;
+      things_are = x0.3 ∙ ap (λ (x : List Held). held.Closed ∷ x) (x1.3 ∙ ap (λ (x : List Held). held.Operand ∷ x) (x2.2));
+      hand_is = x0.4 ∙ ap (λ (x : List Tree). x0.1 ∷ x) (x1.4);
+    }
 
 -- the same by what was taken off
 abbrev pub while-retop : (b : Builder) (t : WhileTop b) (rest : List Held) (spot : Spot) → held.Closed ∷ held.Operand ∷ held.Own t.spot ∷ t.rest ≡ held.Closed ∷ held.Operand ∷ held.Own spot ∷ rest → WhileTop b

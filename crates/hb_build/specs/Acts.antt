@@ -2,26 +2,21 @@
 use Rattle.std.specs.Prelude.{ℕ, zero, suc, pos, ◌+◌, ◌-◌, List, [], ◌∷◌, ◌++◌, Bool, true, false, length, nat_eq, nat_le, nat_lt, if◌then◌else◌, Option, Some, None, position, bytes_eq}
 use Rattle.std.specs.List.{list_any}
 use Rattle.hb_lex.specs.Literal.{value_of_number, value_of_text}
-use Rattle.hb_types.specs.declared.types.Ty.{Ty}
+use Rattle.hb_types.specs.declared.{types.Ty.Ty, types.MethodTy.MethodTy, types.TheConstants.PARAMS_MAX}
 use Rattle.hb_types.specs.declared.types.Ty.TheVariants as ty
-use Rattle.hb_types.specs.declared.types.MethodTy.{MethodTy}
-use Rattle.hb_types.specs.declared.types.TheConstants.{PARAMS_MAX}
 use Rattle.hb_tree.specs.declared.limits.TheConstants.{CLASSES_MAX, SCRIPTS_MAX, NODES_MAX, TYPES_MAX, HEIGHT_MAX, CONSTRUCTS_MAX}
 use Rattle.hb_tree.specs.Tree.{Tree, TNil, TTrue, TFalse, TSelf, TInt, TText, TVar, TNew, TAssign, TPrint, TToStr, TNot, TBinary, TIf, TWhile, TCall, TDef, TDefComputed, TDeclare, TDeclareComputed, TBlock, id_of}
 use Rattle.hb_tree.specs.Counts.{height}
-use Rattle.hb_draft.specs.Words.{with_word}
-use Rattle.hb_draft.specs.Unfinished.{forest_of}
-use Rattle.hb_draft.specs.Made.{word_number}
 use Rattle.hb_grammar.specs.declared.actions.Action.{Action}
 use Rattle.hb_grammar.specs.declared.actions.Action.TheVariants as a
-use Rattle.hb_build.specs.declared.held.Spot.{Spot}
-use Rattle.hb_build.specs.declared.faults.ParseFail.{ParseFail}
+use Rattle.hb_build.specs.declared.{held.Spot.Spot, faults.ParseFail.ParseFail}
 use Rattle.hb_build.specs.declared.faults.ParseFail.TheVariants as fail
 use Rattle.hb_build.specs.declared.faults.Limit.TheVariants as limit
 use Rattle.hb_build.specs.Said.{Said}
 use Rattle.hb_build.specs.Pile.{Slot, Operand, Closed, Item, Argument, Own, Declaring, Word, Target, Called, OfClass, Named, Computed, Parameter, OfType, ParameterType, Block}
 use Rattle.hb_build.specs.Pile.{Body, Setup, Script, items_on, below_items, arguments_on, below_arguments, parameters_on, below_parameters, types_on, below_types, is_full}
 use Rattle.hb_build.specs.Pile.{has_too_many_nodes, has_too_many_calls, has_too_many_variables, declaring}
+use Rattle.hb_draft.specs.{Words.with_word, Unfinished.forest_of, Made.word_number}
 
 -- the program so far, the pile, and how many constructs are open
 pub record Work : Type 0 where

@@ -1,10 +1,8 @@
 -- How a builder answers an action.
 use Rattle.std.specs.Prelude.{◌≡◌, ◌⊎◌, ℕ, ◌+◌, ◌<◌, ◌^◌, List, length, Result, Ok, Err}
 use Rattle.hb_grammar.specs.declared.actions.Action.{Action}
-use Rattle.hb_build.specs.declared.builder.Builder.{Builder}
-use Rattle.hb_build.specs.declared.faults.ParseFail.{ParseFail}
+use Rattle.hb_build.specs.declared.{builder.Builder.Builder, faults.ParseFail.ParseFail, held.Spot.Spot}
 use Rattle.hb_build.specs.declared.faults.ParseFail.TheVariants as fail
-use Rattle.hb_build.specs.declared.held.Spot.{Spot}
 use Rattle.hb_build.specs.Acts.{Answer, Goes, Fails, Lost, act}
 use Rattle.hb_build.specs.Sound.{IsSound, work_of}
 

@@ -1,12 +1,10 @@
 -- A body that ended: its definition is the next node.
 use Rattle.std.specs.Prelude.{◌≡◌, ℕ, ◌-◌, ◌≤◌, List, ◌∷◌, length, take}
 use Rattle.hb_tree.specs.declared.limits.TheConstants.{NODES_IN_BODY_MAX, CALLS_IN_BODY_MAX, VARIABLES_MAX}
-use Rattle.hb_tree.specs.Tree.{Tree, IsBlock}
-use Rattle.hb_tree.specs.Counts.{nodes_in, calls_in, variables_in}
+use Rattle.hb_tree.specs.{Tree.Tree, Tree.IsBlock, Counts.nodes_in, Counts.calls_in, Counts.variables_in}
 use Rattle.hb_draft.specs.Unfinished.{AreParams, in_hand}
 use Rattle.hb_build.specs.declared.builder.Builder.{Builder}
-use Rattle.hb_build.specs.Acts.{Answer, Lost, define}
-use Rattle.hb_build.specs.Sound.{IsSound, pile_of, work_of}
+use Rattle.hb_build.specs.{Acts.Answer, Acts.Lost, Acts.define, Sound.IsSound, Sound.pile_of, Sound.work_of}
 
 -- the builder without the last one in hand
 abbrev pub without_last : Builder → Builder

@@ -1,8 +1,7 @@
 -- Stacks of symbols that fit a pile: no action on the way is lost, and each stands behind the token that it needs.
 use Rattle.std.specs.Prelude.{◌≡◌, List, [], ◌∷◌, ◌++◌, Option, Some, None}
 use Rattle.hb_lex.specs.declared.kinds.TokenKind.{TokenKind}
-use Rattle.hb_grammar.specs.declared.symbols.Symbol.{Symbol}
-use Rattle.hb_grammar.specs.declared.symbols.Symbol.TheVariants.{Token as T, Phrase as N, Action as A}
+use Rattle.hb_grammar.specs.declared.{symbols.Symbol.Symbol, symbols.Symbol.TheVariants.Token as T, symbols.Symbol.TheVariants.Phrase as N, symbols.Symbol.TheVariants.Action as A}
 use Rattle.hb_build.specs.Needs.{needs}
 use Rattle.hb_build.specs.Pile.{Slot, Operand, Closed, Item, Argument, Own, Declaring, Word, Target, Called, OfClass, Named, Computed, Parameter, OfType, ParameterType, Block, Body, Setup, Script}
 use Rattle.hb_build.specs.Tags.{Tag, taken_by, left_by, takes, leaves}

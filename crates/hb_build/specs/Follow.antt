@@ -1,8 +1,7 @@
 -- What the actions of a text build, one after another.
 use Rattle.std.specs.Prelude.{ℕ, zero, suc, List, [], ◌∷◌, Option, Some, None, slice_get}
+use Rattle.hb_lex.specs.{Place.column_at, Place.line_at, Tokens.bytes_of}
 use Rattle.hb_lex.specs.declared.spans.Token.{Token}
-use Rattle.hb_lex.specs.Place.{column_at, line_at}
-use Rattle.hb_lex.specs.Tokens.{bytes_of}
 use Rattle.hb_grammar.specs.Language.{Act}
 use Rattle.hb_build.specs.declared.held.Spot.{Spot}
 use Rattle.hb_build.specs.Acts.{Answer, Goes, Fails, Lost, Work, act}

@@ -3,10 +3,8 @@ use Rattle.std.specs.Prelude.{ℕ, ◌+◌, List, [], ◌∷◌, ◌++◌, Bool,
 use Rattle.std.specs.Set.{distinct_count}
 use Rattle.hb_types.specs.declared.types.Ty.{Ty}
 use Rattle.hb_tree.specs.declared.limits.TheConstants.{NODES_IN_BODY_MAX, CALLS_IN_BODY_MAX, VARIABLES_MAX, ARGUMENTS_MAX}
-use Rattle.hb_tree.specs.Tree.{Tree}
-use Rattle.hb_tree.specs.Counts.{nodes_in, calls_in, names_assigned_in}
-use Rattle.hb_build.specs.declared.held.Spot.{Spot}
-use Rattle.hb_build.specs.declared.held.Held.{Held}
+use Rattle.hb_tree.specs.{Tree.Tree, Counts.nodes_in, Counts.calls_in, Counts.names_assigned_in}
+use Rattle.hb_build.specs.declared.{held.Spot.Spot, held.Held.Held}
 use Rattle.hb_build.specs.declared.held.Held.TheVariants as held
 
 pub data Slot : Type 0 where

@@ -3,8 +3,7 @@ use Rattle.std.specs.Prelude.{ℕ, ◌+◌, ◌≤◌, List, Option, Some, lengt
 use Rattle.hb_lex.specs.declared.kinds.TokenKind.{TokenKind}
 use Rattle.hb_lex.specs.declared.kinds.TokenKind.TheVariants as k
 use Rattle.hb_grammar.specs.declared.symbols.Symbol.{Symbol}
-use Rattle.hb_build.specs.Needs.{HasToken}
-use Rattle.hb_build.specs.Acts.{Work}
+use Rattle.hb_build.specs.{Needs.HasToken, Acts.Work}
 use Rattle.hb_build.specs.Fits.{State, Fits, Stands}
 
 -- the names that the token just read may still bring

@@ -1,9 +1,8 @@
 -- What a program says, apart from how its nodes are kept.
 use Rattle.std.specs.Prelude.{ℕ, List, [], Option}
 use Rattle.hb_types.specs.declared.types.MethodTy.{MethodTy}
-use Rattle.hb_tree.specs.Table.{Table}
-use Rattle.hb_tree.specs.Tree.{Tree}
 use Rattle.hb_draft.specs.Made.{Given, Made, made_of}
+use Rattle.hb_tree.specs.{Table.Table, Tree.Tree}
 
 -- Classes, names and texts, the places of the nodes in their order, what each definition gives, the type and the node
 -- of each declaration, the block of the setup, and the name and block of each script.

@@ -1,24 +1,16 @@
 -- What a builder keeps from action to action, and what it stands for.
 use Rattle.std.specs.Prelude.{◌≡◌, ℕ, ◌+◌, ◌<◌, ◌≤◌, List, [], ◌∷◌, ◌++◌, Bool, true, false, length, map, nat_eq, reverse, if◌then◌else◌}
-use Rattle.std.specs.List.{IsDistinct}
-use Rattle.std.specs.Set.{is_member}
-use Rattle.std.specs.List.{list_any}
-use Rattle.hb_types.specs.declared.ids.NameId.{NameId}
-use Rattle.hb_types.specs.declared.types.TheConstants.{PARAMS_MAX}
-use Rattle.hb_types.specs.declared.types.Ty.{Ty}
+use Rattle.std.specs.{List.IsDistinct, Set.is_member, List.list_any}
+use Rattle.hb_types.specs.declared.{ids.NameId.NameId, types.TheConstants.PARAMS_MAX, types.Ty.Ty}
 use Rattle.hb_types.specs.declared.types.Ty.TheVariants as ty
 use Rattle.hb_tree.specs.declared.limits.TheConstants.{NODES_IN_BODY_MAX, CALLS_IN_BODY_MAX, VARIABLES_MAX, ARGUMENTS_MAX, TYPES_MAX}
 use Rattle.hb_tree.specs.Tree.{IsExpr, IsBlock}
-use Rattle.hb_draft.specs.Unfinished.{in_hand, scripts_in}
-use Rattle.hb_draft.specs.Made.{made_of}
-use Rattle.hb_build.specs.declared.held.Held.{Held}
+use Rattle.hb_build.specs.{Said.said_of, Acts.Work}
+use Rattle.hb_build.specs.declared.{held.Held.Held, builder.Builder.Builder, builder.Scope.Scope}
 use Rattle.hb_build.specs.declared.held.Held.TheVariants as held
-use Rattle.hb_build.specs.declared.builder.Builder.{Builder}
-use Rattle.hb_build.specs.declared.builder.Scope.{Scope}
-use Rattle.hb_build.specs.Said.{said_of}
 use Rattle.hb_build.specs.Pile.{Slot, Operand, Closed, Item, Argument, Word, Target, Called, OfClass, Named, Computed, Parameter, OfType, ParameterType, Body, Setup, Script}
 use Rattle.hb_build.specs.Pile.{arguments_on, parameters_on, types_on, in_body, nodes_since, calls_since, names_since, declaring, piled}
-use Rattle.hb_build.specs.Acts.{Work}
+use Rattle.hb_draft.specs.{Unfinished.in_hand, Unfinished.scripts_in, Made.made_of}
 
 -- what is not yet used, the last first
 abbrev pub things_of : Builder → List Held

@@ -1,9 +1,8 @@
 -- What lies on the pile where a symbol of the grammar stands, and what it leaves there.
 use Rattle.std.specs.Prelude.{List, [], ◌∷◌}
 use Rattle.hb_types.specs.declared.types.Ty.TheVariants as ty
-use Rattle.hb_grammar.specs.declared.actions.Action.{Action}
+use Rattle.hb_grammar.specs.declared.{actions.Action.Action, symbols.Sort.Sort}
 use Rattle.hb_grammar.specs.declared.actions.Action.TheVariants as a
-use Rattle.hb_grammar.specs.declared.symbols.Sort.{Sort}
 use Rattle.hb_grammar.specs.declared.symbols.Sort.TheVariants as g
 
 -- A pile is seen as a list of tags, the last first.

@@ -1,11 +1,8 @@
 -- What the steps of a cache keep of its fields.
 use Rattle.std.proofs.Common.{◌≡◌, ◌≢◌, ℕ, ◌==◌, Bool, true, false, if◌then◌else◌, List, [], length, set, subst, Option, Some, None, refl, sym, ap, ◌∙◌, take, drop, ◌++◌, arith}
-use Rattle.std.specs.Prelude.{is_some}
-use Rattle.std.specs.Option.{option_map}
-use Rattle.std.specs.Global.{Vec}
+use Rattle.std.specs.{Prelude.is_some, Option.option_map, Global.Vec}
 use Rattle.std.proofs.lemmas.Bool.{eqb-true, eqb-false, eq-eqb, ne_eqb, true≢false}
-use Rattle.std.proofs.lemmas.Option.{none-some}
-use Rattle.std.proofs.lemmas.List.{take_all, drop_all, append-nil}
+use Rattle.std.proofs.{lemmas.Option.none-some, lemmas.List.take_all, lemmas.List.drop_all, lemmas.List.append-nil}
 use Rattle.hb_types.specs.declared.ids.KeyId.{KeyId}
 use Rattle.hb_cache.specs.declared.kept.Kept.{Kept}
 use Rattle.hb_cache.specs.Cache.{SameItem, SameItems, unless_used, without_key_used}

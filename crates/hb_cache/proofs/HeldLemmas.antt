@@ -1,9 +1,7 @@
 -- Who is known to which key.
 use Rattle.std.proofs.Common.{◌≡◌, ℕ, zero, suc, ◌+◌, ◌<◌, ◌==◌, Bool, true, false, ◌||◌, List, [], ◌∷◌, ◌++◌, length, take, set, get_or, Some, Result, Ok, Err, refl, sym, ap, ◌∙◌, subst}
-use Rattle.std.specs.Prelude.{slice_get, OnOk, OnErr}
-use Rattle.std.specs.Global.{Vec}
-use Rattle.std.proofs.lemmas.Bool.{eqb-true, eqb-false, eq-eqb}
-use Rattle.std.proofs.lemmas.List.Folds.{list_any-append, list_any_more}
+use Rattle.std.specs.{Prelude.slice_get, Prelude.OnOk, Prelude.OnErr, Global.Vec}
+use Rattle.std.proofs.{lemmas.Bool.eqb-true, lemmas.Bool.eqb-false, lemmas.List.Folds.list_any_more, lemmas.Bool.eq-eqb, lemmas.List.Folds.list_any-append}
 use Rattle.hb_types.specs.declared.ids.KeyId.{KeyId}
 use Rattle.hb_cache.specs.declared.kept.Seen.{Seen}
 use Rattle.hb_cache.specs.Held.{Users, has, has_seen, KeepHad, IsKnown, KeepKnown, AreKnown}

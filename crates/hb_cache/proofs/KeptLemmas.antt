@@ -1,12 +1,9 @@
 -- What is kept by key, and what it used.
 use Rattle.std.proofs.Common.{◌≡◌, ◌≢◌, ℕ, zero, suc, ◌<◌, ◌==◌, Bool, true, false, if◌then◌else◌, ◌||◌, List, [], ◌∷◌, ◌++◌, length, set, Option, Some, None, refl, sym, ap, ◌∙◌, arith}
-use Rattle.std.specs.Prelude.{slice_get, is_some}
-use Rattle.std.specs.List.{AllByRecursion, FoldsTo}
-use Rattle.std.specs.Option.{option_flatten}
+use Rattle.std.specs.{Prelude.slice_get, Prelude.is_some, List.AllByRecursion, List.FoldsTo, Option.option_flatten}
 use Rattle.std.proofs.lemmas.Bool.{eqb-true, eqb-false}
+use Rattle.hb_cache.specs.{Kept.count_in, Kept.kept_at, Held.has_seen}
 use Rattle.hb_cache.specs.declared.{kept.Seen.Seen, kept.Kept.Kept}
-use Rattle.hb_cache.specs.Kept.{count_in, kept_at}
-use Rattle.hb_cache.specs.Held.{has_seen}
 
 -- a count is there where some hold was of the key
 pub counted : (counts : List Seen) (k : ℕ) → has_seen counts k ≡ is_some (count_in counts k)

@@ -1,7 +1,6 @@
 -- What the fields of a cache keep.
 use Rattle.std.specs.Prelude.{◌≡◌, ℕ, ◌==◌, Bool, true, List, slice_get, Option, Some}
-use Rattle.std.specs.List.{list_any}
-use Rattle.std.specs.Global.{Vec}
+use Rattle.std.specs.{List.list_any, Global.Vec}
 use Rattle.hb_types.specs.declared.ids.KeyId.{KeyId}
 use Rattle.hb_cache.specs.declared.{kept.Seen.Seen, kept.Kept.Kept}
 use Rattle.hb_cache.specs.Kept.{kept_at}

@@ -2,9 +2,7 @@
 use Rattle.std.proofs.Common.{◌≡◌, ◌∙◌, ℕ, ◌<◌, zero, suc, List, [], ◌∷◌, ◌++◌, length, Some, refl, sym, ap, subst, append_assoc, arith}
 use Rattle.std.specs.Prelude.{slice_get}
 use Rattle.std.proofs.lemmas.List.{append-nil}
-use Rattle.hb_types.specs.declared.ids.BodySite.{BodySite}
-use Rattle.hb_types.specs.declared.ids.TypeSite.{TypeSite}
-use Rattle.hb_types.specs.declared.ids.KeyId.{KeyId}
+use Rattle.hb_types.specs.declared.{ids.BodySite.BodySite, ids.TypeSite.TypeSite, ids.KeyId.KeyId}
 use Rattle.hb_names.specs.Names.{Name, place}
 use Rattle.hb_tables.specs.Frames.{StaysLive, acts}
 use Rattle.hb_tables.specs.declared.entry.Entry.{Entry}
@@ -19,8 +17,10 @@ pub live_on : (c q : ℕ) (old mid new : List Entry) → IsLive c q old mid → 
 live_on c q old mid new a b = (a.0 ++ b.0, sym (append_assoc old a.0 b.0) ∙ ap (λ l. l ++ b.0) a.1 ∙ b.1, subst (StaysLive q) (sym (acts_append c a.0 b.0)) (live_join q (acts c a.0) (acts c b.0) a.2 b.2))
 
 -- no answer was noted yet
-pub calling_compared : (g : Given) (m : Moment) (held : List KeyId) (compared answers : List Answer) → answers ≡ [] → IsCalling g.t g.door g.q.0 m.known m.asked m.log g.key g.own held compared → IsCalling g.t g.door g.q.0 m.known m.asked m.log g.key g.own held (compared ++ answers)
-calling_compared g m held compared answers none calling = subst (λ (l : List Answer). IsCalling g.t g.door g.q.0 m.known m.asked m.log g.key g.own held l) (sym (ap (λ l. compared ++ l) none ∙ append-nil compared)) calling
+pub calling_compared : (g : Given) (m : Moment) (held : List KeyId) (compared answers : List Answer) → answers ≡ [] → IsCalling g.t g.door g.q.0 m.known m.asked m.log g.key g.own held compared
+    → IsCalling g.t g.door g.q.0 m.known m.asked m.log g.key g.own held (compared ++ answers)
+calling_compared g m held compared answers none calling = subst (λ (l : List Answer). IsCalling g.t g.door g.q.0 m.known m.asked m.log g.key g.own held l)
+    (sym (ap (λ l. compared ++ l) none ∙ append-nil compared)) calling
 
 -- ── what the call was given is as before ──
 

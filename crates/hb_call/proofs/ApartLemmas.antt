@@ -1,39 +1,28 @@
 -- The uses of a kept check are of different keys.
 use Rattle.std.proofs.Common.{◌≡◌, ℕ, zero, suc, ◌<◌, ◌≤◌, Bool, true, false, inl, inr, List, [], ◌∷◌, ◌++◌, length, map, take, Some, refl, sym, ap, ◌∙◌, subst, arith, append-nil}
-use Rattle.std.proofs.lemmas.Cmp.{nat_list_eq_equiv}
-use Rattle.std.proofs.lemmas.Map.Keys.{IsDistinct-head, IsDistinct-tail}
-use Rattle.std.proofs.lemmas.Option.{none-some}
+use Rattle.std.proofs.{lemmas.Cmp.nat_list_eq_equiv, lemmas.Map.Keys.IsDistinct-head, lemmas.Map.Keys.IsDistinct-tail, lemmas.Option.none-some}
 use Rattle.std.specs.List.{AllByRecursion, IsDistinct}
 use Rattle.std.specs.Prelude.{Err, Ok, bytes_eq, if◌then◌else◌, slice_get}
-use Rattle.hb_types.specs.declared.types.Ty.{Ty}
+use Rattle.hb_types.specs.declared.{types.Ty.Ty, ids.KeyId.KeyId}
 use Rattle.hb_types.specs.Types.{is_below}
-use Rattle.hb_types.specs.declared.ids.KeyId.{KeyId}
-use Rattle.hb_tree.specs.Canon.{bytes_at}
-use Rattle.hb_tree.specs.Program.{IsProgram}
-use Rattle.hb_tree.specs.Table.{Table}
-use Rattle.hb_tree.specs.Tree.{Tree}
+use Rattle.hb_tree.specs.{Canon.bytes_at, Program.IsProgram, Table.Table, Tree.Tree}
 use Rattle.hb_tree.proofs.Lists.{each_at}
-use Rattle.hb_deriv.specs.declared.raw.Step.{Step}
-use Rattle.hb_deriv.specs.declared.raw.Used.{Used}
+use Rattle.hb_deriv.specs.declared.{raw.Step.Step, raw.Used.Used}
 use Rattle.hb_deriv.specs.Derivation.{Content, Sites, content_of, key_of, table}
 use Rattle.hb_deriv.specs.Events.{Done, Events, Look, events, fresh, has}
 use Rattle.hb_deriv.specs.Judge.{Key, Subject, Typed, Verdict, has_count, judge, variables_of}
 use Rattle.hb_deriv.specs.Programs.{sites_of}
 use Rattle.hb_deriv.specs.Walk.{AtStep, IsGood, State, ◌>>>◌, at_end, no_use, start, walk}
-use Rattle.hb_deriv.proofs.AlongLemmas.{along, answer}
-use Rattle.hb_deriv.proofs.KeyLemmas.{has_front, has_mid}
+use Rattle.hb_deriv.proofs.{AlongLemmas.along, AlongLemmas.answer, KeyLemmas.has_front, KeyLemmas.has_mid}
 use Rattle.hb_deriv.proofs.WalkLemmas.{passed_by, replay, then_ok, walked_same}
-use Rattle.hb_cache.specs.declared.kept.Kept.{Kept}
-use Rattle.hb_cache.specs.declared.kept.Seen.{Seen}
+use Rattle.hb_cache.specs.declared.{kept.Kept.Kept, kept.Seen.Seen}
 use Rattle.hb_names.specs.Names.{Name}
 use Rattle.hb_names.proofs.NameLemmas.{place-apart}
 use Rattle.hb_tables.specs.declared.entry.Entry.{Entry}
-use Rattle.hb_tables.specs.History.{spot, times}
-use Rattle.hb_tables.specs.Names.{name_of}
+use Rattle.hb_tables.specs.{History.spot, History.times, Names.name_of}
 use Rattle.hb_tables.proofs.StandingLemmas.{held_stands}
 use Rattle.hb_call.specs.Calling.{Given, IsAmong, IsCalling}
-use Rattle.hb_call.specs.Comparing.{answers_in, answers_kept}
-use Rattle.hb_call.specs.OwnCache.{IsTrueCheck}
+use Rattle.hb_call.specs.{Comparing.answers_in, Comparing.answers_kept, OwnCache.IsTrueCheck}
 use Rattle.hb_call.proofs.CompareLemmas.{use_at}
 use Rattle.hb_call.proofs.LooksLemmas.{LooksBelow, block_at, looks_below}
 
@@ -49,7 +38,8 @@ fresh_new seen (Look id x ∷ es) i k e = go (has x seen) refl i (λ s i. fresh_
     unseen false s h = s
     unseen true s h = absurd (let t = has_front k seen (x ∷ []) s in cc (t, h))
 
-    go : (b : Bool) → has x seen ≡ b → (i : ℕ) → ((s : List Key) (i : ℕ) → slice_get (fresh s es) i ≡ Some k → has k s ≡ false) → slice_get (if b then fresh seen es else x ∷ fresh (seen ++ x ∷ []) es) i ≡ Some k → has k seen ≡ false
+    go : (b : Bool) → has x seen ≡ b → (i : ℕ) → ((s : List Key) (i : ℕ) → slice_get (fresh s es) i ≡ Some k → has k s ≡ false)
+        → slice_get (if b then fresh seen es else x ∷ fresh (seen ++ x ∷ []) es) i ≡ Some k → has k seen ≡ false
     go true s i rest e = rest seen i e
     go false s zero rest e = let same : x ≡ k = cc e in subst (λ (y : Key). has y seen ≡ false) same s
     go false s (suc i) rest e = unseen (has k seen) refl (rest (seen ++ x ∷ []) i e)
@@ -107,7 +97,8 @@ good_uses sites s d g = counted (has_count s) g.ends
     es : Events
     es = events (table sites d.uses) s.self s.block (variables_of s)
 
-    counted : (b : Bool) → (if b then walk sites s.self s.block (variables_of s) (start d) >>> (λ p. at_end s.declared.result p.0 p.1.1 p.0.steps) else Err (AtStep 0)) ≡ Ok g.last → map key_of d.uses ≡ fresh [] (events (table sites d.uses) s.self s.block (variables_of s))
+    counted : (b : Bool) → (if b then walk sites s.self s.block (variables_of s) (start d) >>> (λ p. at_end s.declared.result p.0 p.1.1 p.0.steps) else Err (AtStep 0)) ≡ Ok g.last
+        → map key_of d.uses ≡ fresh [] (events (table sites d.uses) s.self s.block (variables_of s))
     counted false ends = absurd (cc)
     counted true ends =
         let a = then_ok (walk sites s.self s.block (variables_of s) (start d)) _ g.last ends in
@@ -188,7 +179,8 @@ module _ (t : Table) (names asked : List Name) (log : List Entry) (kept : Kept) 
 -- a use that comes next, whose key is not the call's own, is not held
 pub next_free : (g : Given) (known asked : List Name) (log : List Entry) (held : List KeyId) (kept : Kept) (i : ℕ) (s : Seen) → IsCalling g.t g.door g.q.0 known asked log g.key g.own held (take i (answers_kept kept))
     → IsProgram g.t → IsTrueCheck g.t known asked log kept → slice_get kept.counts.items i ≡ Some s → (s.key.0 ≡ g.key.0 → ⊥) → times (g.door.caller, g.q.0) (spot s.key.0 log).calls ≡ 0
-next_free g known asked log held kept i s h program check there other = none_of (times (g.door.caller, g.q.0) (spot s.key.0 log).calls) once (λ one. elim (h.only s.key.0 one) [ inl e ↦ other e | inr among ↦ before among ])
+next_free g known asked log held kept i s h program check there other = none_of (times (g.door.caller, g.q.0) (spot s.key.0 log).calls) once
+    (λ one. elim (h.only s.key.0 one) [ inl e ↦ other e | inr among ↦ before among ])
   where
     once : times (g.door.caller, g.q.0) (spot s.key.0 log).calls ≤ 1
     once = let a = held_stands g.door.caller g.q.0 s.key.0 log in let o = h.holds.once s.key.0 in omega (arith, a, o)

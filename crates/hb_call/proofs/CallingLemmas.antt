@@ -1,44 +1,32 @@
 -- What is kept while a call is decided, at each step.
-use Rattle.std.proofs.Common.{◌≡◌, ◌≢◌, ℕ, zero, suc, ◌+◌, ◌<◌, ◌≤◌, ◌⊎◌, inl, inr, ⊎_elim, Bool, true, false, cond, eqb, List, [], ◌∷◌, ◌++◌, length, map, Some, None, sym, refl, ap, ◌∙◌, subst, arith, eq-eqb, append_assoc, nat_eq}
-use Rattle.std.proofs.lemmas.List.{append-nil, map-append}
-use Rattle.std.proofs.lemmas.Bool.{eqb-true}
-use Rattle.std.proofs.lemmas.Option.{none-some}
+use Rattle.std.proofs.Common.{◌≡◌, ◌≢◌, ℕ, zero, suc, ◌+◌, ◌<◌, ◌≤◌, ◌⊎◌, inl, inr, ⊎_elim, Bool, true, false, cond, eqb, List, [], ◌∷◌, ◌++◌, length, map, Some, None, sym}
+use Rattle.std.proofs.Common.{refl, ap, ◌∙◌, subst, arith, eq-eqb, append_assoc, nat_eq}
+use Rattle.std.proofs.{lemmas.List.append-nil, lemmas.List.map-append, lemmas.Bool.eqb-true, lemmas.Option.none-some}
 use Rattle.std.specs.Prelude.{Option, IfSome, if◌then◌else◌}
 use Rattle.std.specs.List.{AllByRecursion}
 use mathlib.Core.List.{IsPrefix}
-use Rattle.hb_types.specs.declared.ids.KeyId.{KeyId}
-use Rattle.hb_types.specs.declared.ids.CallNo.{CallNo}
-use Rattle.hb_types.specs.declared.ids.TypeSite.{TypeSite}
+use Rattle.hb_types.specs.declared.{ids.KeyId.KeyId, ids.CallNo.CallNo, ids.TypeSite.TypeSite}
 use Rattle.hb_tree.specs.Table.{Table}
 use Rattle.hb_names.specs.Names.{Name, place}
 use Rattle.hb_names.proofs.NameLemmas.{place-longer}
 use Rattle.hb_names.specs.declared.names.TheConstants.{NAMES_MAX}
 use Rattle.hb_tree.specs.declared.limits.TheConstants.{TYPES_MAX}
-use Rattle.hb_tables.specs.declared.entry.TheConstants.{HOLDS_MAX}
-use Rattle.hb_tables.specs.declared.desk.Held.{Held}
-use Rattle.hb_tables.specs.declared.entry.Entry.{Entry}
-use Rattle.hb_tables.specs.declared.entry.Act.TheVariants.{Hold}
-use Rattle.hb_tables.specs.Answers.{Fixed}
+use Rattle.hb_tables.specs.declared.{entry.TheConstants.HOLDS_MAX, desk.Held.Held, entry.Entry.Entry, entry.Act.TheVariants.Hold}
+use Rattle.hb_tables.specs.{Answers.Fixed, Names.name_of, Frames.acts, Frames.KeepsHold, Standing.Stand, Standing.count_of}
 use Rattle.hb_tables.specs.History.{spot, times, of_caller, entry, IsLegal, Adds, ty_code}
-use Rattle.hb_tables.specs.Names.{name_of}
-use Rattle.hb_tables.specs.Frames.{acts, KeepsHold}
-use Rattle.hb_tables.specs.Standing.{Stand, count_of}
-use Rattle.hb_tables.proofs.HistoryLemmas.{sound}
-use Rattle.hb_tables.proofs.DeskLemmas.{adds_stand}
-use Rattle.hb_tables.proofs.AddingLemmas.{held_after}
-use Rattle.hb_tables.proofs.StandingLemmas.{held_stands, count_last}
+use Rattle.hb_tables.proofs.{HistoryLemmas.sound, DeskLemmas.adds_stand, AddingLemmas.held_after, StandingLemmas.held_stands, StandingLemmas.count_last}
 use Rattle.hb_call.specs.declared.answers.Answer.{Answer}
 use Rattle.hb_call.specs.Held.{stands}
 use Rattle.hb_call.specs.Calling.{Given, HasType, AreTrue, IsAmong, IsAskedFor, IsCalling, held_among}
-use Rattle.hb_call.proofs.RoomLemmas.{room_hold}
-use Rattle.hb_call.proofs.GrowthLemmas.{asked_on, whole_hold}
+use Rattle.hb_call.proofs.{RoomLemmas.room_hold, GrowthLemmas.asked_on, GrowthLemmas.whole_hold}
 use Rattle.hb_call.proofs.StayLemmas.{hold_finds, held_once, type_stays, answers_stay, acts_last}
 
 true_named : (t : Table) (names known : List Name) (log : List Entry) (x : ℕ × ℕ) (answers : List Answer) → IsPrefix names known → AreTrue t names log x answers → AreTrue t known log x answers
 true_named t names known log x [] longer h = tt
 true_named t names known log x (a ∷ answers) longer h = (place-longer names known (name_of t (a.class.0, a.name.0)) a.key.0 longer h.0, h.1, true_named t names known log x answers longer h.2)
 
-true_last : (t : Table) (names : List Name) (log : List Entry) (x : ℕ × ℕ) (answers : List Answer) (a : Answer) → place names (name_of t (a.class.0, a.name.0)) ≡ Some a.key.0 → HasType log x a.key.0 a.held → AreTrue t names log x answers → AreTrue t names log x (answers ++ a ∷ [])
+true_last : (t : Table) (names : List Name) (log : List Entry) (x : ℕ × ℕ) (answers : List Answer) (a : Answer) → place names (name_of t (a.class.0, a.name.0)) ≡ Some a.key.0
+    → HasType log x a.key.0 a.held → AreTrue t names log x answers → AreTrue t names log x (answers ++ a ∷ [])
 true_last t names log x [] a named typed h = (named, typed, tt)
 true_last t names log x (b ∷ answers) a named typed h = (h.0, h.1, true_last t names log x answers a named typed h.2)
 
@@ -96,16 +84,19 @@ below_last [] key h low = (low, tt)
 below_last (k ∷ held) key h low = (h.0, below_last held key h.1 low)
 
 -- what stands behind a Hold
-pub hold_stands : (c : ℕ) (q : CallNo) (key : KeyId) (ty : Option TypeSite) (n : ℕ) (old new : List Entry) → Adds c old new (Hold q key ty n) → stands c q.0 new ≡ stands c q.0 old ++ record { key = key.0; ty = ty; changes = n } ∷ []
+pub hold_stands : (c : ℕ) (q : CallNo) (key : KeyId) (ty : Option TypeSite) (n : ℕ) (old new : List Entry) → Adds c old new (Hold q key ty n)
+    → stands c q.0 new ≡ stands c q.0 old ++ record { key = key.0; ty = ty; changes = n } ∷ []
 hold_stands c q key ty n old new h = adds_stand c q.0 old new (Hold q key ty n) h ∙ ap (λ b. cond b (stands c q.0 old ++ record { key = key.0; ty = ty; changes = n } ∷ []) (stands c q.0 old)) (eq-eqb q.0 q.0 refl)
 
-pub hold_keys : (c : ℕ) (q : CallNo) (key : KeyId) (ty : Option TypeSite) (n : ℕ) (old new : List Entry) (held : List KeyId) → Adds c old new (Hold q key ty n) → map (λ (h : Stand). h.key) (stands c q.0 old) ≡ map (λ (k : KeyId). k.0) held → map (λ (h : Stand). h.key) (stands c q.0 new) ≡ map (λ (k : KeyId). k.0) (held ++ key ∷ [])
+pub hold_keys : (c : ℕ) (q : CallNo) (key : KeyId) (ty : Option TypeSite) (n : ℕ) (old new : List Entry) (held : List KeyId) → Adds c old new (Hold q key ty n)
+    → map (λ (h : Stand). h.key) (stands c q.0 old) ≡ map (λ (k : KeyId). k.0) held → map (λ (h : Stand). h.key) (stands c q.0 new) ≡ map (λ (k : KeyId). k.0) (held ++ key ∷ [])
 hold_keys c q key ty n old new held h e =
     ap (map (λ (h : Stand). h.key)) (hold_stands c q key ty n old new h) ∙ map-append (λ (h : Stand). h.key) (stands c q.0 old) (record { key = key.0; ty = ty; changes = n } ∷ [])
     ∙ ap (λ l. l ++ key.0 ∷ []) e ∙ sym (map-append (λ (k : KeyId). k.0) held (key ∷ []))
 
 -- behind a Hold of a key the call holds this one and those from before
-pub held_then : (c : ℕ) (q : CallNo) (key : KeyId) (ty : Option TypeSite) (n : ℕ) (old new : List Entry) (k : ℕ) → Adds c old new (Hold q key ty n) → times (c, q.0) (spot k new).calls ≡ 1 → (k ≡ key.0) ⊎ (times (c, q.0) (spot k old).calls ≡ 1)
+pub held_then : (c : ℕ) (q : CallNo) (key : KeyId) (ty : Option TypeSite) (n : ℕ) (old new : List Entry) (k : ℕ) → Adds c old new (Hold q key ty n) → times (c, q.0) (spot k new).calls ≡ 1
+    → (k ≡ key.0) ⊎ (times (c, q.0) (spot k old).calls ≡ 1)
 held_then c q key ty n old new k h one = go (eqb k key.0) refl
   where
     s : Stand
@@ -118,7 +109,8 @@ held_then c q key ty n old new k h one = go (eqb k key.0) refl
     go true e = inl (eqb-true k key.0 e)
     go false e = inr (let a = is ∙ ap (λ b. count_of k (stands c q.0 old) + cond b 1 0) e in let d = held_stands c q.0 k old in omega (arith, one, a, d))
 
-module _ (t : Table) (door : Fixed) (q : CallNo) (names asked : List Name) (log : List Entry) (key : KeyId) (own : Held) (held : List KeyId) (answers : List Answer) (h : IsCalling t door q.0 names asked log key own held answers) where
+module _ (t : Table) (door : Fixed) (q : CallNo) (names asked : List Name) (log : List Entry) (key : KeyId) (own : Held) (held : List KeyId) (answers : List Answer)
+    (h : IsCalling t door q.0 names asked log key own held answers) where
   -- a key that is neither the call's own nor among the answers is not held
   pub not_held : (k : ℕ) → k ≢ key.0 → None ≡ held_among answers k → times (door.caller, q.0) (spot k log).calls ≡ 0
   not_held k other none = go (times (door.caller, q.0) (spot k log).calls) refl ((sound door.limit log h.legal k).once (door.caller, q.0))
@@ -157,7 +149,8 @@ module _ (t : Table) (door : Fixed) (q : CallNo) (names asked : List Name) (log 
     whole = h.whole;
   }
 
-  pub holding : (new : List Entry) (j : KeyId) (found : Held) (a : Answer) → Adds door.caller log new (Hold q j found.ty found.changes) → IsLegal door.limit new → times (door.caller, q.0) (spot j.0 log).calls ≡ 0 → j.0 < NAMES_MAX
+  pub holding : (new : List Entry) (j : KeyId) (found : Held) (a : Answer) → Adds door.caller log new (Hold q j found.ty found.changes) → IsLegal door.limit new
+      → times (door.caller, q.0) (spot j.0 log).calls ≡ 0 → j.0 < NAMES_MAX
       → IsAskedFor names asked j.0 → a.key ≡ j → a.held ≡ found → place names (name_of t (a.class.0, a.name.0)) ≡ Some a.key.0 → IsCalling t door q.0 names asked new key own (held ++ j ∷ []) (answers ++ a ∷ [])
   holding new j found a adds legal none low asks same site named =
       let ty = found.ty in let n = found.changes in
@@ -175,11 +168,13 @@ module _ (t : Table) (door : Fixed) (q : CallNo) (names asked : List Name) (log 
         own_is = subst (λ l. HasType l (c, q.0) key.0 own) is (type_stays door.limit c q.0 log rest legal2 key.0 (keeps key.0) own h.own_is);
         answered = true_last t names new (c, q.0) answers a named (subst (λ (s : Held). HasType new (c, q.0) a.key.0 s) (sym site) (subst (λ (k : KeyId). HasType new (c, q.0) k.0 found) (sym same) typed))
             (subst (λ l. AreTrue t names l (c, q.0) answers) is (answers_stay t names names door.limit c q.0 log rest answers ([], append-nil names) legal2 keeps h.answered));
-        only = λ k one. ⊎_elim (λ e. inr (among_last k answers a (e ∙ ap (λ (k : KeyId). k.0) (sym same)))) (λ o. ⊎_elim (λ e. inl e) (λ i. inr (among_more k answers a i)) (h.only k o)) (held_then c q j ty n log new k adds one);
+        only = λ k one. ⊎_elim (λ e. inr (among_last k answers a (e ∙ ap (λ (k : KeyId). k.0) (sym same)))) (λ o. ⊎_elim (λ e. inl e) (λ i. inr (among_more k answers a i)) (h.only k o))
+            (held_then c q j ty n log new k adds one);
         asked_for = λ k one. ⊎_elim (λ e. subst (IsAskedFor names asked) (sym e) asks) (λ o. h.asked_for k o) (held_then c q j ty n log new k adds one);
         whole = whole_hold c q j ty n log new adds;
       }
 
 -- the same call, as another one that is the same
-pub calling_as : (g h : Given) (names asked : List Name) (log : List Entry) (held : List KeyId) (answers : List Answer) → g ≡ h → IsCalling g.t g.door g.q.0 names asked log g.key g.own held answers → IsCalling h.t h.door h.q.0 names asked log h.key h.own held answers
+pub calling_as : (g h : Given) (names asked : List Name) (log : List Entry) (held : List KeyId) (answers : List Answer) → g ≡ h
+    → IsCalling g.t g.door g.q.0 names asked log g.key g.own held answers → IsCalling h.t h.door h.q.0 names asked log h.key h.own held answers
 calling_as g h names asked log held answers same i = subst (λ (x : Given). IsCalling x.t x.door x.q.0 names asked log x.key x.own held answers) same i

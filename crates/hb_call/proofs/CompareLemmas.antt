@@ -1,41 +1,28 @@
 -- One more use of a kept check is compared.
 use Rattle.std.proofs.Common.{◌≡◌, ℕ, zero, suc, ◌+◌, ◌<◌, ◌≤◌, inl, inr, Bool, true, false, cond, eqb, List, [], ◌∷◌, ◌++◌, length, map, take, Some, None, refl, sym, ap, ◌∙◌, subst, arith, eq-eqb, nat_eq}
-use Rattle.std.proofs.lemmas.Bool.{eqb-true}
-use Rattle.std.proofs.lemmas.Option.{none-some}
+use Rattle.std.proofs.{lemmas.Bool.eqb-true, lemmas.Option.none-some}
 use Rattle.std.specs.Prelude.{Option, slice_get, if◌then◌else◌}
 use Rattle.std.specs.List.{AllByRecursion}
-use Rattle.hb_types.specs.declared.ids.KeyId.{KeyId}
-use Rattle.hb_types.specs.declared.ids.TypeSite.{TypeSite}
+use Rattle.hb_types.specs.declared.{ids.KeyId.KeyId, ids.TypeSite.TypeSite}
 use Rattle.hb_tree.specs.Table.{Table}
 use Rattle.hb_deriv.specs.declared.raw.Used.{Used}
 use Rattle.hb_deriv.specs.Derivation.{key_of}
-use Rattle.hb_cache.specs.declared.kept.Kept.{Kept}
-use Rattle.hb_cache.specs.declared.kept.Seen.{Seen}
+use Rattle.hb_cache.specs.declared.{kept.Kept.Kept, kept.Seen.Seen}
 use Rattle.hb_cache.specs.Kept.{count_in, count_of}
 use Rattle.hb_names.specs.Names.{Name, place}
 use Rattle.hb_names.specs.declared.names.TheConstants.{NAMES_MAX}
 use Rattle.hb_names.proofs.NameLemmas.{place-within}
-use Rattle.hb_tables.specs.declared.desk.Held.{Held}
-use Rattle.hb_tables.specs.declared.entry.Entry.{Entry}
-use Rattle.hb_tables.specs.declared.entry.Act.TheVariants.{Hold}
+use Rattle.hb_tables.specs.declared.{desk.Held.Held, entry.Entry.Entry, entry.Act.TheVariants.Hold}
 use Rattle.hb_tables.specs.History.{spot, times, Adds, IsLegal}
-use Rattle.hb_tables.specs.Names.{name_of}
-use Rattle.hb_tables.specs.Standing.{Stand, count_of as stands_of}
-use Rattle.hb_tables.proofs.DeskLemmas.{adds_prefix}
-use Rattle.hb_tables.proofs.StandingLemmas.{held_stands}
+use Rattle.hb_tables.specs.{Names.name_of, Standing.Stand, Standing.count_of as stands_of}
+use Rattle.hb_tables.proofs.{DeskLemmas.adds_prefix, StandingLemmas.held_stands}
 use Rattle.hb_call.specs.declared.answers.Answer.{Answer}
-use Rattle.hb_call.specs.Held.{Holds, stands}
+use Rattle.hb_call.specs.{Held.Holds, Held.stands, GrowthLaws.each_itself, OwnLaws.seen_now, OwnLaws.seen_on}
 use Rattle.hb_call.specs.Calling.{AreTrue, Given, Goes, HasType, HoldsAnswer, IsAmong, IsAsking, IsCalling, has_key}
 use Rattle.hb_call.specs.Comparing.{HasCompared, answers_in, answers_kept}
-use Rattle.hb_call.specs.GrowthLaws.{each_itself}
-use Rattle.hb_call.proofs.LookingLemmas.{asking_key}
+use Rattle.hb_call.proofs.{LookingLemmas.asking_key, CallingLemmas.holding, CallingLemmas.noted, GrowthLemmas.asked_again, NoteLemmas.answer_at, NoteLemmas.answer_of}
+use Rattle.hb_call.proofs.{StayLemmas.hold_finds, StepLemmas.at, StepLemmas.goes_hold}
 use Rattle.hb_call.specs.OwnCache.{AreUses, IsTrueCheck, IsUse}
-use Rattle.hb_call.specs.OwnLaws.{seen_now, seen_on}
-use Rattle.hb_call.proofs.CallingLemmas.{holding, noted}
-use Rattle.hb_call.proofs.GrowthLemmas.{asked_again}
-use Rattle.hb_call.proofs.NoteLemmas.{answer_at, answer_of}
-use Rattle.hb_call.proofs.StayLemmas.{hold_finds}
-use Rattle.hb_call.proofs.StepLemmas.{at, goes_hold}
 
 -- ── the keys that are held ──
 
@@ -73,7 +60,9 @@ once_at kept (x ∷ ss) zero s h e = let a : x ≡ s = cc e in subst (λ (z : Se
 once_at kept (x ∷ ss) (suc i) s h e = once_at kept ss i s h.1 e
 
 -- a key that was answered for has the count that is kept of it
-among_count : (kept : Kept) (t : Table) (names : List Name) (log : List Entry) (x : ℕ × ℕ) (k n : ℕ) (us : List Used) (ss : List Seen) (i : ℕ) → AllByRecursion (λ (s : Seen). count_of kept s.key.0 ≡ Some s.changes) ss → count_of kept k ≡ Some n → AreTrue t names log x (take i (answers_in us ss)) → IsAmong k (take i (answers_in us ss)) → (spot k log).changes ≡ n
+among_count : (kept : Kept) (t : Table) (names : List Name) (log : List Entry) (x : ℕ × ℕ) (k n : ℕ) (us : List Used) (ss : List Seen) (i : ℕ)
+    → AllByRecursion (λ (s : Seen). count_of kept s.key.0 ≡ Some s.changes) ss → count_of kept k ≡ Some n → AreTrue t names log x (take i (answers_in us ss))
+    → IsAmong k (take i (answers_in us ss)) → (spot k log).changes ≡ n
 among_count kept t names log x k n us ss zero once is h i = absurd i
 among_count kept t names log x k n [] ss (suc m) once is h i = absurd i
 among_count kept t names log x k n (u ∷ us) [] (suc m) once is h i = absurd i
@@ -101,7 +90,8 @@ module _ (g : Given) (known asked : List Name) (log : List Entry) (held : List K
 
   -- a key that is held has the count that is kept
   same_count : times (g.door.caller, g.q.0) (spot s.key.0 log).calls ≡ 1 → (spot s.key.0 log).changes ≡ s.changes
-  same_count one = elim (h.only s.key.0 one) [ inl e ↦ own e | inr among ↦ among_count kept g.t known log (g.door.caller, g.q.0) s.key.0 s.changes kept.derivation.uses.items kept.counts.items i check.once (once_at kept kept.counts.items i s check.once there) h.answered among ]
+  same_count one = elim (h.only s.key.0 one) [ inl e ↦ own e | inr among ↦ among_count kept g.t known log
+      (g.door.caller, g.q.0) s.key.0 s.changes kept.derivation.uses.items kept.counts.items i check.once (once_at kept kept.counts.items i s check.once there) h.answered among ]
     where
       own : s.key.0 ≡ g.key.0 → (spot s.key.0 log).changes ≡ s.changes
       own e =
@@ -120,9 +110,11 @@ module _ (g : Given) (known asked : List Name) (log : List Entry) (held : List K
       subst (λ (m : List Name). Goes g (at known asked log) (at known m new)) (asked_again known asked (name_of g.t (key_of the.u)) s.key.0 the.fits.asked_for the_named)
       (goes_hold g known asked known log new (name_of g.t (key_of the.u)) s.key found.ty found.changes the_named adds legal)
 
-  pub compared_hold : (new : List Entry) (found : Held) → Adds g.door.caller log new (Hold g.q s.key found.ty found.changes) → IsLegal g.door.limit new → times (g.door.caller, g.q.0) (spot s.key.0 log).calls ≡ 0 → s.key.0 < NAMES_MAX
+  pub compared_hold : (new : List Entry) (found : Held) → Adds g.door.caller log new (Hold g.q s.key found.ty found.changes) → IsLegal g.door.limit new
+      → times (g.door.caller, g.q.0) (spot s.key.0 log).calls ≡ 0 → s.key.0 < NAMES_MAX
       → IsCalling g.t g.door g.q.0 known asked new g.key g.own (held ++ s.key ∷ []) (take i (answers_kept kept) ++ record the_answer { held = found } ∷ [])
-  compared_hold new found adds legal none low = holding g.t g.door g.q known asked log g.key g.own held (take i (answers_kept kept)) h new s.key found (record the_answer { held = found }) adds legal none low the.fits.asked_for refl refl the_named
+  compared_hold new found adds legal none low = holding g.t g.door g.q known asked log g.key g.own held (take i (answers_kept kept)) h new s.key found
+      (record the_answer { held = found }) adds legal none low the.fits.asked_for refl refl the_named
 
   -- the count is as it was, and so is the type
   pub found_same : (new : List Entry) (found : Held) → Adds g.door.caller log new (Hold g.q s.key found.ty found.changes) → IsLegal g.door.limit new → found.changes ≡ s.changes → found ≡ the_answer.held
@@ -144,7 +136,8 @@ module _ (g : Given) (known asked : List Name) (log : List Entry) (held : List K
     other = tt;
   }
 
-  module _ (new : List Entry) (found : Held) (adds : Adds g.door.caller log new (Hold g.q s.key found.ty found.changes)) (legal : IsLegal g.door.limit new) (none : times (g.door.caller, g.q.0) (spot s.key.0 log).calls ≡ 0) (few : length known ≤ NAMES_MAX) where
+  module _ (new : List Entry) (found : Held) (adds : Adds g.door.caller log new (Hold g.q s.key found.ty found.changes)) (legal : IsLegal g.door.limit new)
+      (none : times (g.door.caller, g.q.0) (spot s.key.0 log).calls ≡ 0) (few : length known ≤ NAMES_MAX) where
     other_calling : IsCalling g.t g.door g.q.0 known asked new g.key g.own (held ++ s.key ∷ []) (take i (answers_kept kept) ++ record the_answer { held = found } ∷ [])
     other_calling = compared_hold new found adds legal none (the_low few)
 

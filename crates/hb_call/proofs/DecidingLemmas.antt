@@ -1,48 +1,28 @@
 -- A verdict by what was answered is the row's, and what a call keeps while others go on.
 use Rattle.std.proofs.Common.{◌≡◌, ℕ, zero, suc, ◌⊎◌, inl, inr, Bool, true, List, [], ◌∷◌, ◌++◌, map, Some, None, Ok, refl, sym, ap, ◌∙◌, subst, arith}
-use Rattle.std.proofs.lemmas.List.{append-nil}
-use Rattle.std.proofs.lemmas.Option.{none-some}
+use Rattle.std.proofs.{lemmas.List.append-nil, lemmas.Option.none-some}
 use Rattle.std.specs.Prelude.{Option, Contains, slice_get, if◌then◌else◌}
 use Rattle.std.specs.Option.{option_map}
-use Rattle.hb_types.specs.declared.ids.KeyId.{KeyId}
-use Rattle.hb_types.specs.declared.ids.CallNo.{CallNo}
-use Rattle.hb_types.specs.declared.ids.TypeSite.{TypeSite}
-use Rattle.hb_types.specs.declared.ids.BodySite.{BodySite}
-use Rattle.hb_types.specs.declared.types.Ty.{Ty}
-use Rattle.hb_types.specs.declared.types.MethodTy.{MethodTy}
+use Rattle.hb_types.specs.declared.{ids.KeyId.KeyId, ids.CallNo.CallNo, ids.TypeSite.TypeSite, ids.BodySite.BodySite, types.Ty.Ty, types.MethodTy.MethodTy}
 use Rattle.hb_tree.specs.declared.parts.Body.{Body}
 use Rattle.hb_tree.specs.Table.{Table}
-use Rattle.hb_deriv.specs.Judge.{Key, Subject}
-use Rattle.hb_deriv.specs.Judgement.{IsJudged}
-use Rattle.hb_deriv.specs.Faults.{BodyFails}
-use Rattle.hb_deriv.specs.Events.{looks}
-use Rattle.hb_deriv.specs.Derivation.{type_at}
-use Rattle.hb_deriv.specs.Programs.{sites_of, subject_from}
+use Rattle.hb_deriv.specs.{Judge.Key, Judge.Subject, Judgement.IsJudged, Faults.BodyFails, Events.looks, Derivation.type_at, Programs.sites_of, Programs.subject_from}
 use Rattle.hb_check.specs.declared.bodies.Checked.{Checked}
 use Rattle.hb_check.specs.declared.bodies.Checked.TheVariants as checked
 use Rattle.hb_check.specs.Asked.{Asked, Refusal, Agrees, key_asked, types_in}
-use Rattle.hb_check.specs.Checking.{Answers}
-use Rattle.hb_check.specs.Runs.{keys_asked}
+use Rattle.hb_check.specs.{Checking.Answers, Runs.keys_asked}
 use Rattle.hb_names.specs.Names.{Name, place}
-use Rattle.hb_tables.specs.declared.desk.Held.{Held}
-use Rattle.hb_tables.specs.declared.entry.Entry.{Entry}
-use Rattle.hb_tables.specs.declared.entry.Verdict.{Verdict}
-use Rattle.hb_tables.specs.Answers.{Fixed}
+use Rattle.hb_tables.specs.declared.{desk.Held.Held, entry.Entry.Entry, entry.Verdict.Verdict}
+use Rattle.hb_tables.specs.{Answers.Fixed, Names.name_of, Frames.acts, Frames.KeepsHold, Standing.Stand, Standing.standing}
 use Rattle.hb_tables.specs.History.{spot, times, IsLegal, Learns}
-use Rattle.hb_tables.specs.Names.{name_of}
-use Rattle.hb_tables.specs.Frames.{acts, KeepsHold}
-use Rattle.hb_tables.specs.Standing.{Stand, standing}
 use Rattle.hb_tables.specs.Rows.{site_in, declared_in, body_at, HoldsName, IsDecided}
 use Rattle.hb_tables.specs.Verdicts.{takes, subject, verdict_of, looks_of}
-use Rattle.hb_tables.proofs.AddingLemmas.{own_stays}
-use Rattle.hb_tables.proofs.DeskLemmas.{learns_acts}
-use Rattle.hb_tables.proofs.VerdictLemmas.{enters_of, ill_of}
+use Rattle.hb_tables.proofs.{AddingLemmas.own_stays, DeskLemmas.learns_acts, VerdictLemmas.enters_of, VerdictLemmas.ill_of}
 use Rattle.hb_call.specs.declared.answers.Answer.{Answer}
 use Rattle.hb_call.specs.Held.{HasRoom, stands}
 use Rattle.hb_call.specs.Calling.{HasType, AreTrue, IsAmong, IsCalling, answers_of}
 use Rattle.hb_call.specs.Deciding.{IsVerdictBy, told, type_declared, verdict_by}
-use Rattle.hb_call.proofs.RoomLemmas.{room_learns}
-use Rattle.hb_call.proofs.GrowthLemmas.{whole_same}
+use Rattle.hb_call.proofs.{RoomLemmas.room_learns, GrowthLemmas.whole_same}
 use Rattle.hb_call.proofs.StayLemmas.{held_once, type_stays, answers_stay, keeps_none}
 
 -- the body and the type of a subject
@@ -61,14 +41,17 @@ parts t class (Some b) (Some m) s e = record { body = b; declared = m; has_body 
 pub fits_type : (m : MethodTy) (n : MethodTy) (kinds : List Ty) (o : Option MethodTy) → o ≡ Some m → o ≡ Some n → takes m kinds ≡ true → takes n kinds ≡ true
 fits_type m n kinds o a b h = let e : m ≡ n = cc in subst (λ (x : MethodTy). takes x kinds ≡ true) e h
 
-pub found_by : (t : Table) (class : ℕ) (site : BodySite) (declared : TypeSite) (m : MethodTy) (kinds : List Ty) (answers : List Asked) (refused : Option Refusal) (found : Checked) → sites_of t declared.0 ≡ Some m → takes m kinds ≡ true → Answers t class site.0 declared.0 answers refused (Ok found) → IsVerdictBy t class (Some site) (Some declared) kinds answers (verdict_by (told site found))
+pub found_by : (t : Table) (class : ℕ) (site : BodySite) (declared : TypeSite) (m : MethodTy) (kinds : List Ty) (answers : List Asked) (refused : Option Refusal) (found : Checked)
+    → sites_of t declared.0 ≡ Some m → takes m kinds ≡ true → Answers t class site.0 declared.0 answers refused (Ok found)
+    → IsVerdictBy t class (Some site) (Some declared) kinds answers (verdict_by (told site found))
 found_by t class site declared m kinds answers refused (checked.Good d) typed fits a table agrees =
     let U = types_in (sites_of t) table in
     let p = parts t class (slice_get t.bodies site.0) (sites_of t declared.0) a.subject a.subject_is in
     let good = fits_type m p.declared kinds (sites_of t declared.0) typed p.has_type fits in
     let r = a.tells table agrees in
     let keys : map key_asked answers ≡ looks U a.subject = sym (append-nil (map key_asked answers)) ∙ ap (keys_asked answers) (sym a.cause) ∙ r.1 in (
-      sym (enters_of t U class (slice_get t.bodies site.0) (sites_of t declared.0) kinds (record { body = p.body; declared = p.declared; has_body = p.has_body; has_type = p.has_type; fits = good; holds = subst (λ s. IsJudged U s) (sym p.is) r.0 })),
+      sym (enters_of t U class (slice_get t.bodies site.0) (sites_of t declared.0) kinds
+          (record { body = p.body; declared = p.declared; has_body = p.has_body; has_type = p.has_type; fits = good; holds = subst (λ s. IsJudged U s) (sym p.is) r.0 })),
       ap (λ (b : Option Body). looks_of t U class b (sites_of t declared.0) kinds) p.has_body ∙ ap (λ (n : Option MethodTy). looks_of t U class (Some p.body) n kinds) p.has_type
           ∙ ap (λ (b : Bool). if b then looks U (subject t class p.body p.declared) else []) good ∙ ap (looks U) p.is ∙ sym keys,
     )
@@ -78,7 +61,8 @@ found_by t class site declared m kinds answers refused (checked.Bad ill) typed f
     let good = fits_type m p.declared kinds (sites_of t declared.0) typed p.has_type fits in
     let r = a.tells table agrees in
     let keys : map key_asked answers ≡ looks U a.subject = sym (append-nil (map key_asked answers)) ∙ ap (keys_asked answers) (sym a.cause) ∙ r.1 in (
-      sym (ill_of t U class (slice_get t.bodies site.0) (sites_of t declared.0) kinds ill (record { body = p.body; declared = p.declared; has_body = p.has_body; has_type = p.has_type; fits = good; holds = subst (λ s. BodyFails U s ill) (sym p.is) r.0 })),
+      sym (ill_of t U class (slice_get t.bodies site.0) (sites_of t declared.0) kinds ill
+          (record { body = p.body; declared = p.declared; has_body = p.has_body; has_type = p.has_type; fits = good; holds = subst (λ s. BodyFails U s ill) (sym p.is) r.0 })),
       ap (λ (b : Option Body). looks_of t U class b (sites_of t declared.0) kinds) p.has_body ∙ ap (λ (n : Option MethodTy). looks_of t U class (Some p.body) n kinds) p.has_type
           ∙ ap (λ (b : Bool). if b then looks U (subject t class p.body p.declared) else []) good ∙ ap (looks U) p.is ∙ sym keys,
     )
@@ -88,19 +72,22 @@ pub agrees : (t : Table) (names : List Name) (log : List Entry) (x : ℕ × ℕ)
 agrees t names log x [] h = tt
 agrees t names log x (a ∷ answers) h = (ap (site_in log) h.0 ∙ ap (option_map (λ (s : TypeSite). s.0)) (sym h.1.1), agrees t names log x answers h.2)
 
-pub held_in : (t : Table) (names : List Name) (log : List Entry) (x : ℕ × ℕ) (answers : List Answer) → AreTrue t names log x answers → (p : Name) → Contains (map (name_of t) (map key_asked (answers_of answers))) p → HoldsName names log x p
+pub held_in : (t : Table) (names : List Name) (log : List Entry) (x : ℕ × ℕ) (answers : List Answer) → AreTrue t names log x answers → (p : Name)
+    → Contains (map (name_of t) (map key_asked (answers_of answers))) p → HoldsName names log x p
 held_in t names log x [] h p i = absurd (let low = i.1 in omega (arith, low))
 held_in t names log x (a ∷ answers) h p (zero, low, e) = (a.key.0, ap (place names) (sym e) ∙ h.0, h.1.0)
 held_in t names log x (a ∷ answers) h p (suc i, low, e) = held_in t names log x answers h.2 p (i, omega (arith, low), e)
 
-pub found_in : (t : Table) (names : List Name) (log : List Entry) (x : ℕ × ℕ) (answers : List Answer) (k : ℕ) → AreTrue t names log x answers → IsAmong k answers → (p : Name) × Contains (map (name_of t) (map key_asked (answers_of answers))) p × (place names p ≡ Some k)
+pub found_in : (t : Table) (names : List Name) (log : List Entry) (x : ℕ × ℕ) (answers : List Answer) (k : ℕ) → AreTrue t names log x answers → IsAmong k answers
+    → (p : Name) × Contains (map (name_of t) (map key_asked (answers_of answers))) p × (place names p ≡ Some k)
 found_in t names log x [] k h i = absurd i
 found_in t names log x (a ∷ answers) k h (inl e) = (name_of t (a.class.0, a.name.0), (0, omega arith, refl), h.0 ∙ ap Some (sym e))
 found_in t names log x (a ∷ answers) k h (inr i) =
     let r = found_in t names log x answers k h.2 i in let c = r.1 in
     (r.0, (suc c.0, (let low = c.1 in omega (arith, low)), c.2), r.2)
 
-module _ (t : Table) (door : Fixed) (q : CallNo) (names asked : List Name) (log : List Entry) (key : KeyId) (own : Held) (held : List KeyId) (answers : List Answer) (h : IsCalling t door q.0 names asked log key own held answers) where
+module _ (t : Table) (door : Fixed) (q : CallNo) (names asked : List Name) (log : List Entry) (key : KeyId) (own : Held) (held : List KeyId) (answers : List Answer)
+    (h : IsCalling t door q.0 names asked log key own held answers) where
   pub learned : (new : List Entry) → Learns door.caller log new → IsLegal door.limit new → IsCalling t door q.0 names asked new key own held answers
   learned new learns legal =
       let c = door.caller in let between = learns.0 in
@@ -121,7 +108,8 @@ module _ (t : Table) (door : Fixed) (q : CallNo) (names asked : List Name) (log 
       }
 
   -- the call is decided as its row says
-  pub row_here : (class : ℕ) (bytes : List ℕ) (site : Option BodySite) (kinds : List Ty) (v : Verdict) → place names (class, bytes) ≡ Some key.0 → site ≡ (spot key.0 log).body → IsVerdictBy t class site own.ty kinds (answers_of answers) v
+  pub row_here : (class : ℕ) (bytes : List ℕ) (site : Option BodySite) (kinds : List Ty) (v : Verdict) → place names (class, bytes) ≡ Some key.0 → site ≡ (spot key.0 log).body
+      → IsVerdictBy t class site own.ty kinds (answers_of answers) v
       → IsDecided t names log (door.caller, q.0) key.0 site kinds v
   row_here class bytes site kinds v named defined by =
       let r = by (declared_in t names log) (agrees t names log (door.caller, q.0) answers h.answered) in
@@ -138,11 +126,13 @@ module _ (t : Table) (door : Fixed) (q : CallNo) (names asked : List Name) (log 
         only = λ j one. let o = found_it class bytes named j (h.only j one) in (o.0, subst (λ (l : List Name). Contains l o.0) (sym needs) o.1, o.2);
       }
     where
-      holds_it : (class : ℕ) (bytes : List ℕ) → place names (class, bytes) ≡ Some key.0 → (p : Name) → Contains ((class, bytes) ∷ map (name_of t) (map key_asked (answers_of answers))) p → HoldsName names log (door.caller, q.0) p
+      holds_it : (class : ℕ) (bytes : List ℕ) → place names (class, bytes) ≡ Some key.0 → (p : Name) → Contains ((class, bytes) ∷ map (name_of t) (map key_asked (answers_of answers))) p
+          → HoldsName names log (door.caller, q.0) p
       holds_it class bytes named p (zero, low, e) = (key.0, ap (place names) (sym e) ∙ named, h.own_is.0)
       holds_it class bytes named p (suc i, low, e) = held_in t names log (door.caller, q.0) answers h.answered p (i, omega (arith, low), e)
 
-      found_it : (class : ℕ) (bytes : List ℕ) → place names (class, bytes) ≡ Some key.0 → (j : ℕ) → (j ≡ key.0) ⊎ IsAmong j answers → (p : Name) × Contains ((class, bytes) ∷ map (name_of t) (map key_asked (answers_of answers))) p × (place names p ≡ Some j)
+      found_it : (class : ℕ) (bytes : List ℕ) → place names (class, bytes) ≡ Some key.0 → (j : ℕ) → (j ≡ key.0) ⊎ IsAmong j answers
+          → (p : Name) × Contains ((class, bytes) ∷ map (name_of t) (map key_asked (answers_of answers))) p × (place names p ≡ Some j)
       found_it class bytes named j (inl e) = ((class, bytes), (0, omega arith, refl), named ∙ ap Some (sym e))
       found_it class bytes named j (inr i) =
           let r = found_in t names log (door.caller, q.0) answers j h.answered i in let c = r.1 in

@@ -1,21 +1,14 @@
 -- Keys that a call holds, and gives back.
 use Rattle.std.proofs.Common.{◌≡◌, ℕ, ◌+◌, ◌<◌, ◌≤◌, Bool, true, false, cond, eqb, List, [], ◌∷◌, ◌++◌, length, get_or, drop, map, sym, refl, ap, ◌∙◌, subst, arith, add-one, append_assoc, eq-eqb}
 use mathlib.Core.List.{IsPrefix}
-use Rattle.std.proofs.lemmas.List.{append-nil}
-use Rattle.std.proofs.Math.Seq.{drop-cons}
+use Rattle.std.proofs.{lemmas.List.append-nil, Math.Seq.drop-cons}
 use Rattle.std.specs.List.{AllByRecursion}
-use Rattle.hb_types.specs.declared.ids.CallNo.{CallNo}
-use Rattle.hb_types.specs.declared.ids.KeyId.{KeyId}
+use Rattle.hb_types.specs.declared.{ids.CallNo.CallNo, ids.KeyId.KeyId}
 use Rattle.hb_names.specs.declared.names.TheConstants.{NAMES_MAX}
-use Rattle.hb_tables.specs.declared.entry.Entry.{Entry}
-use Rattle.hb_tables.specs.declared.entry.Act.{Act}
-use Rattle.hb_tables.specs.declared.entry.Act.TheVariants.{Free}
-use Rattle.hb_tables.specs.History.{Adds}
-use Rattle.hb_tables.specs.Frames.{acts}
+use Rattle.hb_tables.specs.declared.{entry.Entry.Entry, entry.Act.Act, entry.Act.TheVariants.Free}
+use Rattle.hb_tables.specs.{History.Adds, Frames.acts}
 use Rattle.hb_tables.specs.Standing.{Stand, all_but, standing_from, standing, count_of}
-use Rattle.hb_tables.proofs.DeskLemmas.{adds_stand, adds_prefix}
-use Rattle.hb_tables.proofs.FrontLemmas.{adds_act}
-use Rattle.hb_tables.proofs.StandingLemmas.{standing_append}
+use Rattle.hb_tables.proofs.{DeskLemmas.adds_stand, DeskLemmas.adds_prefix, FrontLemmas.adds_act, StandingLemmas.standing_append}
 use Rattle.hb_call.specs.Held.{stands, Holds, frees, MayFree}
 
 pub frees_drop : (q : CallNo) (keys : List KeyId) (i : ℕ) (d : KeyId) → i < length keys → frees q (drop i keys) ≡ Free q (get_or keys i d) ∷ frees q (drop (i + 1) keys)
@@ -46,9 +39,11 @@ all_but_none k (x ∷ xs) h = let p = one_or_none (eqb k x.key) (count_of k xs) 
 
 all_but_append : (k : ℕ) (xs ys : List Stand) → all_but k (xs ++ ys) ≡ all_but k xs ++ all_but k ys
 all_but_append k [] ys = refl
-all_but_append k (x ∷ xs) ys = let r = all_but_append k xs ys in elim (eqb k x.key) as (λ b. cond b (all_but k (xs ++ ys)) (x ∷ all_but k (xs ++ ys)) ≡ cond b (all_but k xs) (x ∷ all_but k xs) ++ all_but k ys) [ true ↦ r | false ↦ ap (λ l. x ∷ l) r ]
+all_but_append k (x ∷ xs) ys = let r = all_but_append k xs ys in
+    elim (eqb k x.key) as (λ b. cond b (all_but k (xs ++ ys)) (x ∷ all_but k (xs ++ ys)) ≡ cond b (all_but k xs) (x ∷ all_but k xs) ++ all_but k ys) [ true ↦ r | false ↦ ap (λ l. x ∷ l) r ]
 
-pub head_same : (h : Stand) (hs : List Stand) (key : KeyId) (keys : List KeyId) → map (λ (h : Stand). h.key) (h ∷ hs) ≡ map (λ (k : KeyId). k.0) (key ∷ keys) → (key.0 ≡ h.key) × (map (λ (h : Stand). h.key) hs ≡ map (λ (k : KeyId). k.0) keys)
+pub head_same : (h : Stand) (hs : List Stand) (key : KeyId) (keys : List KeyId) → map (λ (h : Stand). h.key) (h ∷ hs) ≡ map (λ (k : KeyId). k.0) (key ∷ keys)
+    → (key.0 ≡ h.key) × (map (λ (h : Stand). h.key) hs ≡ map (λ (k : KeyId). k.0) keys)
 head_same h hs key keys e = (cc, cc)
 
 pub head_gone : (kept hs : List Stand) (h : Stand) (k : ℕ) → k ≡ h.key → count_of k (kept ++ h ∷ hs) ≤ 1 → all_but k (kept ++ h ∷ hs) ≡ kept ++ hs
@@ -62,7 +57,8 @@ pub less : (k : ℕ) (kept hs : List Stand) (h : Stand) → count_of k (kept ++ 
 less k kept hs h once = let a = count_append k kept (h ∷ hs) in let b = count_append k kept hs in omega (arith, a, b, once)
 
 -- the keys behind others that stay may be freed, and then these stay
-pub may_free : (kept hs : List Stand) (keys : List KeyId) → map (λ (h : Stand). h.key) hs ≡ map (λ (k : KeyId). k.0) keys → ((k : ℕ) → count_of k (kept ++ hs) ≤ 1) → AllByRecursion (λ (k : KeyId). k.0 < NAMES_MAX) keys → MayFree keys (kept ++ hs)
+pub may_free : (kept hs : List Stand) (keys : List KeyId) → map (λ (h : Stand). h.key) hs ≡ map (λ (k : KeyId). k.0) keys → ((k : ℕ) → count_of k (kept ++ hs) ≤ 1)
+    → AllByRecursion (λ (k : KeyId). k.0 < NAMES_MAX) keys → MayFree keys (kept ++ hs)
 may_free kept [] [] e once below = tt
 may_free kept [] (key ∷ keys) e once below = absurd (cc)
 may_free kept (h ∷ hs) [] e once below = absurd (cc)
@@ -75,7 +71,8 @@ may_free kept (h ∷ hs) (key ∷ keys) e once below =
     )
 
 -- what is left behind the Frees of the keys behind those that stay
-pub freed_stands : (q : CallNo) (kept hs : List Stand) (keys : List KeyId) → map (λ (h : Stand). h.key) hs ≡ map (λ (k : KeyId). k.0) keys → ((k : ℕ) → count_of k (kept ++ hs) ≤ 1) → standing_from q.0 (kept ++ hs) (frees q keys) ≡ kept
+pub freed_stands : (q : CallNo) (kept hs : List Stand) (keys : List KeyId) → map (λ (h : Stand). h.key) hs ≡ map (λ (k : KeyId). k.0) keys → ((k : ℕ) → count_of k (kept ++ hs) ≤ 1)
+    → standing_from q.0 (kept ++ hs) (frees q keys) ≡ kept
 freed_stands q kept [] [] e once = append-nil kept
 freed_stands q kept [] (key ∷ keys) e once = absurd (cc)
 freed_stands q kept (h ∷ hs) [] e once = absurd (cc)
@@ -86,9 +83,11 @@ freed_stands q kept (h ∷ hs) (key ∷ keys) e once =
     ∙ freed_stands q kept hs keys p.1 (λ k. less k kept hs h (once k))
 
 -- one key more is freed
-pub free_next : (c : ℕ) (q : CallNo) (keys : List KeyId) (i : ℕ) (d : KeyId) (old new : List Entry) (all : List Act) → i < length keys → Adds c old new (Free q (get_or keys i d)) → acts c old ++ frees q (drop i keys) ≡ all → acts c new ++ frees q (drop (i + 1) keys) ≡ all
+pub free_next : (c : ℕ) (q : CallNo) (keys : List KeyId) (i : ℕ) (d : KeyId) (old new : List Entry) (all : List Act) → i < length keys → Adds c old new (Free q (get_or keys i d))
+    → acts c old ++ frees q (drop i keys) ≡ all → acts c new ++ frees q (drop (i + 1) keys) ≡ all
 free_next c q keys i d old new all h adds e =
-    ap (λ w. w ++ frees q (drop (i + 1) keys)) (adds_act c old new (Free q (get_or keys i d)) adds) ∙ append_assoc (acts c old) (Free q (get_or keys i d) ∷ []) (frees q (drop (i + 1) keys)) ∙ ap (λ w. acts c old ++ w) (sym (frees_drop q keys i d h)) ∙ e
+    ap (λ w. w ++ frees q (drop (i + 1) keys)) (adds_act c old new (Free q (get_or keys i d)) adds) ∙ append_assoc (acts c old) (Free q (get_or keys i d) ∷ []) (frees q (drop (i + 1) keys))
+        ∙ ap (λ w. acts c old ++ w) (sym (frees_drop q keys i d h)) ∙ e
 
 pub all_stand : (c : ℕ) (q : CallNo) (keys : List KeyId) (log : List Entry) → Holds c q.0 keys log → MayFree keys (stands c q.0 log)
 all_stand c q keys log h = may_free [] (stands c q.0 log) keys h.keys h.once h.below

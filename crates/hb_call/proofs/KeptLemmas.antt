@@ -3,44 +3,32 @@ use Rattle.std.proofs.Common.{◌≡◌, ℕ, zero, suc, ◌⊎◌, inl, inr, Bo
 use Rattle.std.proofs.lemmas.List.{append-nil}
 use Rattle.std.specs.Prelude.{Option, Err, slice_get, if◌then◌else◌, ◌||◌}
 use Rattle.std.specs.Option.{option_map}
-use Rattle.hb_types.specs.declared.ids.TypeSite.{TypeSite}
-use Rattle.hb_types.specs.declared.types.Ty.{Ty}
-use Rattle.hb_types.specs.declared.types.MethodTy.{MethodTy}
+use Rattle.hb_types.specs.declared.{ids.TypeSite.TypeSite, types.Ty.Ty, types.MethodTy.MethodTy}
 use Rattle.hb_types.specs.Types.{is_below}
 use Rattle.hb_tree.specs.declared.parts.Body.{Body}
 use Rattle.hb_tree.specs.Table.{Table}
-use Rattle.hb_deriv.specs.declared.raw.Used.{Used}
-use Rattle.hb_deriv.specs.declared.raw.Step.{Step}
+use Rattle.hb_deriv.specs.declared.{raw.Used.Used, raw.Step.Step}
 use Rattle.hb_deriv.specs.Judge.{Key, Types, Typed, Subject, Verdict as Judged, judge, variables_of, has_count}
 use Rattle.hb_deriv.specs.Judgement.{IsJudged}
 use Rattle.hb_deriv.specs.Events.{Events, SameAt, events, events_body, fresh, looks, same_key, has}
 use Rattle.hb_deriv.specs.Derivation.{AgreesWith, Content, Sites, content_of, key_of, table, type_at, type_of}
 use Rattle.hb_deriv.specs.Programs.{IsFor, sites_of, subject_from}
 use Rattle.hb_deriv.specs.Walk.{State, AtStep, ◌>>>◌, walk, no_use, at_end, start, IsGood}
-use Rattle.hb_deriv.proofs.AlongLemmas.{answer, along}
-use Rattle.hb_deriv.proofs.GoodLemmas.{good_derives}
-use Rattle.hb_deriv.proofs.KeyLemmas.{key_same}
-use Rattle.hb_deriv.proofs.LookLemmas.{looks_onward}
+use Rattle.hb_deriv.proofs.{AlongLemmas.answer, AlongLemmas.along, GoodLemmas.good_derives, KeyLemmas.key_same, LookLemmas.looks_onward}
 use Rattle.hb_deriv.proofs.WalkLemmas.{replay, then_ok, walked_same, Passed, passed_by}
-use Rattle.hb_cache.specs.declared.kept.Kept.{Kept}
-use Rattle.hb_cache.specs.declared.kept.Seen.{Seen}
+use Rattle.hb_cache.specs.declared.{kept.Kept.Kept, kept.Seen.Seen}
 use Rattle.hb_check.specs.Asked.{Agrees, Declared, asked, key_asked, types_in}
 use Rattle.hb_names.specs.Names.{Name, place}
 use Rattle.hb_names.proofs.NameLemmas.{place-at}
-use Rattle.hb_tables.specs.declared.desk.Held.{Held}
-use Rattle.hb_tables.specs.declared.entry.Entry.{Entry}
+use Rattle.hb_tables.specs.declared.{desk.Held.Held, entry.Entry.Entry}
 use Rattle.hb_tables.specs.declared.entry.Verdict.TheVariants as verdict
 use Rattle.hb_tables.specs.declared.entry.By.TheVariants as by
-use Rattle.hb_tables.specs.History.{spot}
-use Rattle.hb_tables.specs.Rows.{body_at, kinds_of}
-use Rattle.hb_tables.specs.Verdicts.{looks_of, subject}
+use Rattle.hb_tables.specs.{History.spot, Rows.body_at, Rows.kinds_of, Verdicts.looks_of, Verdicts.subject}
 use Rattle.hb_tables.proofs.VerdictLemmas.{enters_of}
 use Rattle.hb_call.specs.declared.answers.Answer.{Answer}
 use Rattle.hb_call.specs.Calling.{Given, HasType, answers_of}
-use Rattle.hb_call.specs.Comparing.{TakesArgs, answers_in}
+use Rattle.hb_call.specs.{Comparing.TakesArgs, Comparing.answers_in, OwnCache.AreUses, OwnCache.IsTrueCheck, OwnLaws.seen_now}
 use Rattle.hb_call.specs.Deciding.{AreNext, IsVerdictBy, type_declared}
-use Rattle.hb_call.specs.OwnCache.{AreUses, IsTrueCheck}
-use Rattle.hb_call.specs.OwnLaws.{seen_now}
 use Rattle.hb_call.proofs.DecidingLemmas.{fits_type, parts}
 
 -- ── the uses of a good derivation are the looks in their own table ──
@@ -76,7 +64,8 @@ good_looks sites s d g = counted (has_count s) refl g.ends
         let body : events_body T s ≡ es = rw n refl in
         ap (map key_of) all_used ∙ p.keys ∙ ap (λ (x : Events). fresh [] x) (sym body)
 
-    counted : (b : Bool) → has_count s ≡ b → (if b then walk sites s.self s.block (variables_of s) (start d) >>> (λ p. at_end s.declared.result p.0 p.1.1 p.0.steps) else Err (AtStep 0)) ≡ Ok g.last → map key_of d.uses ≡ looks T s
+    counted : (b : Bool) → has_count s ≡ b → (if b then walk sites s.self s.block (variables_of s) (start d) >>> (λ p. at_end s.declared.result p.0 p.1.1 p.0.steps) else Err (AtStep 0)) ≡ Ok
+        g.last → map key_of d.uses ≡ looks T s
     counted false n ends = absurd (cc)
     counted true n ends =
         let a = then_ok (walk sites s.self s.block (variables_of s) (start d)) _ g.last ends in
@@ -158,7 +147,8 @@ pub record IsUsable (g : Given) (kept : Kept) : Type 0 where
   pub class : kept.derivation.class.0 ≡ g.class.0
   pub declared : type_declared g.t g.own.ty ≡ sites_of g.t kept.derivation.declared.0
 
-pub usable : (g : Given) (names asked : List Name) (log : List Entry) (kept : Kept) (bytes : List ℕ) → IsTrueCheck g.t names asked log kept → place names (g.class.0, bytes) ≡ Some g.key.0 → kept.key.0 ≡ g.key.0 → kept.changes ≡ g.own.changes → HasType log (g.door.caller, g.q.0) g.key.0 g.own → IsUsable g kept
+pub usable : (g : Given) (names asked : List Name) (log : List Entry) (kept : Kept) (bytes : List ℕ) → IsTrueCheck g.t names asked log kept → place names (g.class.0, bytes) ≡ Some g.key.0
+    → kept.key.0 ≡ g.key.0 → kept.changes ≡ g.own.changes → HasType log (g.door.caller, g.q.0) g.key.0 g.own → IsUsable g kept
 usable g names asked log kept bytes h named key changes own =
     let one : slice_get names g.key.0 ≡ Some h.name = ap (slice_get names) (sym key) ∙ place-at names h.name kept.key.0 h.named in
     let two : slice_get names g.key.0 ≡ Some (g.class.0, bytes) = place-at names (g.class.0, bytes) g.key.0 named in
@@ -173,7 +163,8 @@ usable g names asked log kept bytes h named key changes own =
 
 module _ (g : Given) (kept : Kept) (h : IsUsable g kept) (args : TakesArgs g) where
   subject_is : subject_from g.t g.class.0 (slice_get g.t.bodies kept.derivation.body.0) (type_declared g.t g.own.ty) ≡ Some h.good.subject
-  subject_is = ap (λ (m : Option MethodTy). subject_from g.t g.class.0 (slice_get g.t.bodies kept.derivation.body.0) m) h.declared ∙ ap (λ (c : ℕ). subject_from g.t c (slice_get g.t.bodies kept.derivation.body.0) (sites_of g.t kept.derivation.declared.0)) (sym h.class) ∙ h.good.is
+  subject_is = ap (λ (m : Option MethodTy). subject_from g.t g.class.0 (slice_get g.t.bodies kept.derivation.body.0) m) h.declared
+      ∙ ap (λ (c : ℕ). subject_from g.t c (slice_get g.t.bodies kept.derivation.body.0) (sites_of g.t kept.derivation.declared.0)) (sym h.class) ∙ h.good.is
 
   own_type : type_declared g.t g.own.ty ≡ Some args.ty
   own_type = ap (type_declared g.t) args.typed ∙ args.is
@@ -182,7 +173,8 @@ module _ (g : Given) (kept : Kept) (h : IsUsable g kept) (args : TakesArgs g) wh
   looks_are T =
       let p = parts g.t g.class.0 (slice_get g.t.bodies kept.derivation.body.0) (type_declared g.t g.own.ty) h.good.subject subject_is in
       ap (λ (b : Option Body). looks_of g.t T g.class.0 b (type_declared g.t g.own.ty) (kinds_of g.args)) p.has_body ∙ ap (λ (n : Option MethodTy). looks_of g.t T g.class.0 (Some p.body) n (kinds_of g.args)) p.has_type
-      ∙ ap (λ (b : Bool). if b then looks T (subject g.t g.class.0 p.body p.declared) else []) (fits_type args.ty p.declared (kinds_of g.args) (type_declared g.t g.own.ty) own_type p.has_type args.fits) ∙ ap (looks T) p.is
+      ∙ ap (λ (b : Bool). if b then looks T (subject g.t g.class.0 p.body p.declared) else [])
+          (fits_type args.ty p.declared (kinds_of g.args) (type_declared g.t g.own.ty) own_type p.has_type args.fits) ∙ ap (looks T) p.is
 
   -- answers that follow the uses are the next looks
   pub kept_next : (answers : List Answer) → Follows g.t kept.derivation.uses.items answers → AreNext g (Some kept.derivation.body) answers
@@ -195,17 +187,20 @@ module _ (g : Given) (kept : Kept) (h : IsUsable g kept) (args : TakesArgs g) wh
       (on.0, looks_are U ∙ on.1 ∙ ap (λ (l : List Key). l ++ key_of c.u ∷ on.0) c.keys ∙ ap (λ (k : Key). map key_asked (answers_of first) ++ k ∷ on.0) c.key)
 
   -- where all types are as they were, the body is judged, and its looks are the uses
-  pub kept_verdict : (names asked : List Name) (log : List Entry) → AreUses g.t names asked log kept.derivation.uses.items kept.counts.items → IsVerdictBy g.t g.class.0 (Some kept.derivation.body) g.own.ty (kinds_of g.args) (answers_of (answers_in kept.derivation.uses.items kept.counts.items)) (verdict.Enter by.Own)
+  pub kept_verdict : (names asked : List Name) (log : List Entry) → AreUses g.t names asked log kept.derivation.uses.items kept.counts.items
+      → IsVerdictBy g.t g.class.0 (Some kept.derivation.body) g.own.ty (kinds_of g.args) (answers_of (answers_in kept.derivation.uses.items kept.counts.items)) (verdict.Enter by.Own)
   kept_verdict names asked log uses D agree =
       let s = sites_of g.t in let U = types_in s D in
       let p = parts g.t g.class.0 (slice_get g.t.bodies kept.derivation.body.0) (type_declared g.t g.own.ty) h.good.subject subject_is in
       let d = good_derives s h.good.subject (content_of kept.derivation) h.good.good U (uses_typed names asked log D kept.derivation.uses.items kept.counts.items uses agree) in
       let fits = fits_type args.ty p.declared (kinds_of g.args) (type_declared g.t g.own.ty) own_type p.has_type args.fits in (
-        sym (enters_of g.t U g.class.0 (slice_get g.t.bodies kept.derivation.body.0) (type_declared g.t g.own.ty) (kinds_of g.args) (record { body = p.body; declared = p.declared; has_body = p.has_body; has_type = p.has_type; fits = fits; holds = subst (λ s. IsJudged U s) (sym p.is) d.judged })),
+        sym (enters_of g.t U g.class.0 (slice_get g.t.bodies kept.derivation.body.0) (type_declared g.t g.own.ty) (kinds_of g.args)
+            (record { body = p.body; declared = p.declared; has_body = p.has_body; has_type = p.has_type; fits = fits; holds = subst (λ s. IsJudged U s) (sym p.is) d.judged })),
         looks_are U ∙ sym d.uses ∙ sym (keys_in names asked log kept.derivation.uses.items kept.counts.items uses),
       )
     where
-      uses_typed : (names asked : List Name) (log : List Entry) (D : Declared) (us : List Used) (ss : List Seen) → AreUses g.t names asked log us ss → Agrees (answers_of (answers_in us ss)) D → AgreesWith (sites_of g.t) us (types_in (sites_of g.t) D)
+      uses_typed : (names asked : List Name) (log : List Entry) (D : Declared) (us : List Used) (ss : List Seen) → AreUses g.t names asked log us ss → Agrees (answers_of (answers_in us ss)) D
+          → AgreesWith (sites_of g.t) us (types_in (sites_of g.t) D)
       uses_typed names asked log D [] [] u a = tt
       uses_typed names asked log D [] (s ∷ ss) u a = absurd u
       uses_typed names asked log D (x ∷ us) [] u a = absurd u
@@ -220,13 +215,12 @@ module _ (g : Given) (kept : Kept) (h : IsUsable g kept) (args : TakesArgs g) wh
 -- the first answers of the uses follow them, also where the last is another one
 module _ (t : Table) (names asked : List Name) (log : List Entry) where
   pub follows_first : (i : ℕ) (us : List Used) (ss : List Seen) → AreUses t names asked log us ss → Follows t us (take i (answers_in us ss))
-  follows_first zero us ss h = tt
   follows_first (suc i) [] [] h = tt
-  follows_first (suc i) [] (s ∷ ss) h = tt
-  follows_first (suc i) (u ∷ us) [] h = tt
   follows_first (suc i) (u ∷ us) (s ∷ ss) h = (refl, inr h.0.typed, follows_first i us ss h.1)
+  follows_first _ _ _ _ = tt
 
-  pub follows_differing : (i : ℕ) (held : Held) (us : List Used) (ss : List Seen) → AreUses t names asked log us ss → Follows t us (take i (answers_in us ss) ++ map (λ (a : Answer). record a { held = held }) (take 1 (drop i (answers_in us ss))))
+  pub follows_differing : (i : ℕ) (held : Held) (us : List Used) (ss : List Seen) → AreUses t names asked log us ss
+      → Follows t us (take i (answers_in us ss) ++ map (λ (a : Answer). record a { held = held }) (take 1 (drop i (answers_in us ss))))
   follows_differing i held [] [] h = nothing i
     where
       nothing : (i : ℕ) → Follows t [] (take i (answers_in [] []) ++ map (λ (a : Answer). record a { held = held }) (take 1 (drop i (answers_in [] []))))

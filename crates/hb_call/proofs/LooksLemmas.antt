@@ -2,19 +2,14 @@
 use Rattle.std.proofs.Common.{◌≡◌, ℕ, zero, suc, ◌<◌, List, [], ◌∷◌, ◌++◌, length, Some, None, refl}
 use Rattle.std.proofs.lemmas.Option.{none-some}
 use Rattle.std.specs.Prelude.{Err, Ok, Option}
-use Rattle.hb_types.specs.declared.ids.NodeId.{NodeId}
-use Rattle.hb_types.specs.declared.types.MethodTy.{MethodTy}
-use Rattle.hb_types.specs.declared.types.Ty.{Ty}
+use Rattle.hb_types.specs.declared.{ids.NodeId.NodeId, types.MethodTy.MethodTy, types.Ty.Ty}
 use Rattle.hb_types.specs.declared.types.Ty.TheVariants as ty
 use Rattle.hb_types.specs.Variables.{Variables}
 use Rattle.hb_tree.specs.declared.node.Method.TheVariants as method
-use Rattle.hb_tree.specs.declared.node.Node.{Node}
+use Rattle.hb_tree.specs.declared.{node.Node.Node, parts.Body.Body}
 use Rattle.hb_tree.specs.declared.node.Node.TheVariants as node
-use Rattle.hb_tree.specs.declared.parts.Body.{Body}
 use Rattle.hb_tree.specs.Nodes.{args_of, items_of, node_at}
-use Rattle.hb_tree.specs.Program.{IsKnownIn, IsProgram}
-use Rattle.hb_tree.specs.Table.{Table}
-use Rattle.hb_tree.specs.Tree.{Tree}
+use Rattle.hb_tree.specs.{Program.IsKnownIn, Program.IsProgram, Table.Table, Tree.Tree}
 use Rattle.hb_tree.specs.TreeAt.{forest_at, tree_at, tree_down, tree_of, tree_of_place}
 use Rattle.hb_deriv.specs.Events.{Done, Events, Look, behind, done, events, events_args, events_items, look_at}
 use Rattle.hb_deriv.specs.Judge.{Subject, Typed, Types, Verdict, keys_of}
@@ -52,12 +47,8 @@ named_then : {A : Type 0} (n : ℕ) (es : Events) (v : Verdict A) (f : A → Eve
 named_then n es v f h k = record { below = below_both n es (behind v f) h.below (below_behind n v f (λ r. (k r).below)) }
 
 below_keys : (n id m : ℕ) (t : Ty) → m < n → LooksBelow n (look_at id (keys_of t m))
-below_keys n id m ty.Nil h = tt
-below_keys n id m ty.Bool h = tt
-below_keys n id m ty.Int h = tt
-below_keys n id m ty.Str h = tt
-below_keys n id m ty.Any h = tt
 below_keys n id m (ty.Class c) h = (h, tt)
+below_keys _ _ _ _ _ = tt
 
 -- a call looks at its own name
 named_call : (n id m : ℕ) (t : Ty) (v : Verdict Typed) → m < n → AreNamed n (look_at id (keys_of t m) ++ done id v)
@@ -78,14 +69,7 @@ module _ (t : Table) (types : Types) (self : ℕ) where
     named_args (i ∷ is) G rs = named_then _ _ _ _ (each i.0 G) (λ (p : Typed). named_args is p.0 (rs ++ p.1 ∷ []))
 
     named_node : (id : ℕ) (n : Node) → IsKnownIn t id n → LooksIn (tree_of t part id n)
-    named_node id node.Nil h G = named_done _ id _
-    named_node id node.True h G = named_done _ id _
-    named_node id node.False h G = named_done _ id _
-    named_node id node.SelfRef h G = named_done _ id _
-    named_node id (node.Int n) h G = named_done _ id _
-    named_node id (node.Text x) h G = named_done _ id _
     named_node id (node.Var x) h G = named_last _ id _ _
-    named_node id (node.New c) h G = named_done _ id _
     named_node id (node.Assign x e) h G = named_then _ _ _ _ (each e.0 G) (λ r. named_done _ id _)
     named_node id (node.Print e) h G = named_then _ _ _ _ (each e.0 G) (λ r. named_done _ id _)
     named_node id (node.ToStr e) h G = named_then _ _ _ _ (each e.0 G) (λ r. named_done _ id _)
@@ -94,11 +78,10 @@ module _ (t : Table) (types : Types) (self : ℕ) where
     named_node id (node.If c a b) h G = named_then _ _ _ _ (each c.0 G) (λ (r : Typed). named_then _ _ _ _ (each a.0 r.0) (λ p. named_then _ _ _ _ (each b.0 r.0) (λ q. named_done _ id _)))
     named_node id (node.While c b) h G = named_then _ _ _ _ (each c.0 G) (λ (r : Typed). named_then _ _ _ _ (each b.0 r.0) (λ q. named_last _ id _ _))
     named_node id (node.Call r m args) h G = named_then _ _ _ _ (each r.0 G) (λ (p : Typed). named_then _ _ _ _ (named_args (args_of args) p.0 []) (λ q. named_call _ id m.0 p.1 _ h.0))
-    named_node id (node.Def (method.Named c m) s) h G = named_done _ id _
     named_node id (node.Def (method.Computed c e) s) h G = named_then _ _ _ _ (each e.0 G) (λ r. named_last _ id _ _)
-    named_node id (node.Declare (method.Named c m) s q) h G = named_done _ id _
     named_node id (node.Declare (method.Computed c e) s q) h G = named_then _ _ _ _ (each e.0 G) (λ r. named_last _ id _ _)
     named_node id (node.Block first count) h G = named_items (items_of t first count) G ty.Nil
+    named_node id _ _ _ = named_done _ id _
 
     named_place : (id : ℕ) (o : Option Node) → ((n : Node) → o ≡ Some n → IsKnownIn t id n) → LooksIn (tree_of_place t part id o)
     named_place id None h G = named_done _ id _

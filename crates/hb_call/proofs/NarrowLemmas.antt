@@ -2,23 +2,18 @@
 use Rattle.std.proofs.Common.{◌≡◌, ℕ, ◌⊎◌, inl, inr, List, [], ◌∷◌, ◌++◌, map, Some, None, refl, sym, ap, ◌∙◌, subst}
 use Rattle.std.proofs.lemmas.Option.{none-some}
 use Rattle.std.specs.Prelude.{Option}
-use Rattle.hb_types.specs.declared.ids.KeyId.{KeyId}
-use Rattle.hb_types.specs.declared.ids.BodySite.{BodySite}
+use Rattle.hb_types.specs.declared.{ids.KeyId.KeyId, ids.BodySite.BodySite}
 use Rattle.hb_tree.specs.Table.{Table}
-use Rattle.hb_deriv.specs.Judge.{Key}
-use Rattle.hb_deriv.specs.Programs.{sites_of}
+use Rattle.hb_deriv.specs.{Judge.Key, Programs.sites_of}
 use Rattle.hb_check.specs.Asked.{key_asked, types_in}
 use Rattle.hb_names.specs.Names.{Name, place}
-use Rattle.hb_tables.specs.declared.entry.Entry.{Entry}
-use Rattle.hb_tables.specs.declared.entry.Verdict.{Verdict}
-use Rattle.hb_tables.specs.Names.{name_of}
+use Rattle.hb_tables.specs.declared.{entry.Entry.Entry, entry.Verdict.Verdict}
+use Rattle.hb_tables.specs.{Names.name_of, Verdicts.looks_of}
 use Rattle.hb_tables.specs.Rows.{body_at, declared_in, kinds_of}
-use Rattle.hb_tables.specs.Verdicts.{looks_of}
 use Rattle.hb_call.specs.declared.answers.Answer.{Answer}
 use Rattle.hb_call.specs.Calling.{AreTrue, Given, IsAmong, IsCalling, answers_of}
 use Rattle.hb_call.specs.Deciding.{AreNext, IsRuled, type_declared}
-use Rattle.hb_call.proofs.DecidingLemmas.{agrees}
-use Rattle.hb_call.proofs.LookingLemmas.{true_back, true_front}
+use Rattle.hb_call.proofs.{DecidingLemmas.agrees, LookingLemmas.true_back, LookingLemmas.true_front}
 
 among_parts : (k : ℕ) (xs ys : List Answer) → IsAmong k (xs ++ ys) → IsAmong k xs ⊎ IsAmong k ys
 among_parts k [] ys i = inr i
@@ -55,14 +50,17 @@ module _ (t : Table) (names : List Name) (log : List Entry) (x : ℕ × ℕ) whe
   among_keys : (k : ℕ) (answers : List Answer) (fs os : List Key) (y : Key) → keys_of answers ≡ fs ++ y ∷ os → AreTrue t names log x answers → place names (name_of t y) ≡ Some k → IsAmong k answers
   among_keys k [] [] os y e h n = absurd (cc e)
   among_keys k [] (f ∷ fs) os y e h n = absurd (cc e)
-  among_keys k (b ∷ answers) [] os y e h n = let same : (b.class.0, b.name.0) ≡ y = cc e in inl (let one : place names (name_of t y) ≡ Some b.key.0 = subst (λ (z : Key). place names (name_of t z) ≡ Some b.key.0) same h.0 in let two : Some k ≡ Some b.key.0 = sym n ∙ one in cc two)
+  among_keys k (b ∷ answers) [] os y e h n = let same : (b.class.0, b.name.0) ≡ y = cc e in
+      inl (let one : place names (name_of t y) ≡ Some b.key.0 = subst (λ (z : Key). place names (name_of t z) ≡ Some b.key.0) same h.0 in let two : Some k ≡ Some b.key.0 = sym n ∙ one in cc two)
   among_keys k (b ∷ answers) (f ∷ fs) os y e h n = inr (among_keys k answers fs os y (cc e) h.2 n)
 
   -- and so does one that stands before a key without a name, behind keys with names
-  among_before : (k : ℕ) (answers first : List Answer) (y r : Key) (os ps : List Key) → keys_of answers ++ r ∷ os ≡ keys_of first ++ y ∷ ps → AreTrue t names log x answers → AreTrue t names log x first → place names (name_of t y) ≡ Some k → place names (name_of t r) ≡ None → IsAmong k answers
+  among_before : (k : ℕ) (answers first : List Answer) (y r : Key) (os ps : List Key) → keys_of answers ++ r ∷ os ≡ keys_of first ++ y ∷ ps → AreTrue t names log x answers
+      → AreTrue t names log x first → place names (name_of t y) ≡ Some k → place names (name_of t r) ≡ None → IsAmong k answers
   among_before k [] [] y r os ps e h i n none = let same : r ≡ y = cc e in absurd (none-some k (sym (subst (λ (z : Key). place names (name_of t z) ≡ None) same none) ∙ n))
   among_before k [] (f ∷ first) y r os ps e h i n none = let same : r ≡ (f.class.0, f.name.0) = cc e in absurd (none-some f.key.0 (sym (subst (λ (z : Key). place names (name_of t z) ≡ None) same none) ∙ i.0))
-  among_before k (b ∷ answers) [] y r os ps e h i n none = let same : (b.class.0, b.name.0) ≡ y = cc e in inl (let one : place names (name_of t y) ≡ Some b.key.0 = subst (λ (z : Key). place names (name_of t z) ≡ Some b.key.0) same h.0 in let two : Some k ≡ Some b.key.0 = sym n ∙ one in cc two)
+  among_before k (b ∷ answers) [] y r os ps e h i n none = let same : (b.class.0, b.name.0) ≡ y = cc e in
+      inl (let one : place names (name_of t y) ≡ Some b.key.0 = subst (λ (z : Key). place names (name_of t z) ≡ Some b.key.0) same h.0 in let two : Some k ≡ Some b.key.0 = sym n ∙ one in cc two)
   among_before k (b ∷ answers) (f ∷ first) y r os ps e h i n none = inr (among_before k answers first y r os ps (cc e) h.2 i.2 n none)
 
 module _ (g : Given) (names asked : List Name) (log : List Entry) (held : List KeyId) (compared answers : List Answer) (h : IsCalling g.t g.door g.q.0 names asked log g.key g.own held (compared ++ answers)) where
@@ -111,7 +109,8 @@ module _ (g : Given) (names asked : List Name) (log : List Entry) (held : List K
       among_keys g.t names log (g.door.caller, g.q.0) k answers (keys_of l.first) l.others l.y (sym all ∙ l.looks) (true_back g.t names log (g.door.caller, g.q.0) compared answers h.answered) l.named)
 
   -- so does a check that ended before a key without a name
-  pub narrow_before : (site : Option BodySite) (r : Key) (others : List Key) → AreNext g site compared → looks_here g names log site ≡ keys_of answers ++ r ∷ others → place names (name_of g.t r) ≡ None → IsCalling g.t g.door g.q.0 names asked log g.key g.own held answers
+  pub narrow_before : (site : Option BodySite) (r : Key) (others : List Key) → AreNext g site compared → looks_here g names log site ≡ keys_of answers ++ r ∷ others
+      → place names (name_of g.t r) ≡ None → IsCalling g.t g.door g.q.0 names asked log g.key g.own held answers
   narrow_before site r others next all none = narrowed (λ k i.
       let l = looked_at site k next i in let told = true_back g.t names log (g.door.caller, g.q.0) compared answers h.answered in
       among_before g.t names log (g.door.caller, g.q.0) k answers l.first l.y r others l.others (sym all ∙ l.looks) told l.told l.named none)

@@ -5,12 +5,10 @@ use Rattle.std.specs.Prelude.{IsErrAnd, Result, slice_get}
 use Rattle.hb_tree.specs.Table.{Table}
 use Rattle.hb_names.specs.Names.{Name}
 use Rattle.hb_tables.specs.declared.entry.Entry.{Entry}
-use Rattle.hb_call.specs.declared.frame.CallFail.{CallFail}
-use Rattle.hb_call.specs.OwnCache.{AreUses}
+use Rattle.hb_call.specs.declared.{frame.CallFail.CallFail, answers.Answer.Answer}
+use Rattle.hb_call.specs.{OwnCache.AreUses, Comparing.answers_in}
 use Rattle.hb_deriv.specs.declared.raw.Used.{Used}
 use Rattle.hb_cache.specs.declared.kept.Seen.{Seen}
-use Rattle.hb_call.specs.declared.answers.Answer.{Answer}
-use Rattle.hb_call.specs.Comparing.{answers_in}
 
 -- the answer of a use, where a hold found this
 abbrev pub answer_of : Used → Seen → Answer

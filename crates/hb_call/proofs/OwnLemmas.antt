@@ -3,24 +3,19 @@ use Rattle.std.proofs.Common.{◌≡◌, ◌⊎◌, inl, inr, ℕ, zero, suc, �
 use Rattle.std.proofs.lemmas.Bool.{eqb-true}
 use mathlib.Core.Logic.{dite}
 use native.Mathlib.Decide.{ℕ_discrete}
-use Rattle.std.specs.Prelude.{if◌then◌else◌, is_some}
-use Rattle.std.specs.List.{AllByRecursion}
-use Rattle.hb_cache.specs.declared.kept.Kept.{Kept}
-use Rattle.hb_cache.specs.declared.kept.Seen.{Seen}
+use Rattle.std.specs.{Prelude.if◌then◌else◌, Prelude.is_some, List.AllByRecursion}
+use Rattle.hb_cache.specs.declared.{kept.Kept.Kept, kept.Seen.Seen}
 use Rattle.hb_cache.specs.Cache.{SaysSame}
 use Rattle.hb_cache.specs.Kept.{count_in, count_of as kept_count, item_of}
-use Rattle.hb_tables.specs.declared.entry.Entry.{Entry}
-use Rattle.hb_tables.specs.declared.entry.Act.{Act}
-use Rattle.hb_tables.specs.declared.entry.Act.TheVariants.{Hold, Free, Retype, Busy, WornType, Define, WornDef, Call}
+use Rattle.hb_tables.specs.declared.{entry.Entry.Entry, entry.Act.Act, entry.Act.TheVariants.Hold, entry.Act.TheVariants.Free, entry.Act.TheVariants.Retype}
+use Rattle.hb_tables.specs.declared.{entry.Act.TheVariants.Busy, entry.Act.TheVariants.WornType, entry.Act.TheVariants.Define, entry.Act.TheVariants.WornDef}
+use Rattle.hb_tables.specs.declared.{entry.Act.TheVariants.Call}
 use Rattle.hb_tables.specs.Frames.{acts, frees_key, KeepsHold}
 use Rattle.hb_tables.specs.History.{Spot, spot, times, done, entry, IsLegal}
 use Rattle.hb_tables.specs.Standing.{Stand, all_but, stand_done, standing_from, standing, count_of}
-use Rattle.hb_tables.proofs.FrameLemmas.{acts_append, hold_keeps}
+use Rattle.hb_tables.proofs.{FrameLemmas.acts_append, FrameLemmas.hold_keeps, StandingLemmas.held_stands, StandingLemmas.standing_append}
 use Rattle.hb_tables.proofs.HistoryLemmas.{legal_climb, legal_more, legal_none, sound, spot_more, turn_here}
-use Rattle.hb_tables.proofs.StandingLemmas.{held_stands, standing_append}
-use Rattle.hb_call.specs.Held.{stands}
-use Rattle.hb_call.specs.Own.{counts_of, item_by}
-use Rattle.hb_call.specs.OwnCache.{HoldsCheck, IsFound}
+use Rattle.hb_call.specs.{Held.stands, Own.counts_of, Own.item_by, OwnCache.HoldsCheck, OwnCache.IsFound}
 
 -- what the Hold found is so behind this list
 abbrev pub IsStill : List Entry → Stand → Type 0
@@ -83,7 +78,8 @@ still_but log j (h ∷ hs) all = by (eqb j h.key) (still_but log j hs all.1)
 
 module _ (limit c q : ℕ) where
   -- an act of the caller
-  still_done : (log : List Entry) (hs : List Stand) (a : Act) → IsLegal limit (log ++ entry c a ∷ []) → ((k : ℕ) → count_of k hs ≤ times (c, q) (spot k log).calls) → AllByRecursion (IsStill log) hs → AllByRecursion (IsStill (log ++ entry c a ∷ [])) (stand_done q hs a)
+  still_done : (log : List Entry) (hs : List Stand) (a : Act) → IsLegal limit (log ++ entry c a ∷ []) → ((k : ℕ) → count_of k hs ≤ times (c, q) (spot k log).calls)
+      → AllByRecursion (IsStill log) hs → AllByRecursion (IsStill (log ++ entry c a ∷ [])) (stand_done q hs a)
   still_done log hs a legal few all = by a legal
     where
       keeps : (a : Act) (k : ℕ) → frees_key q k a ≡ false → KeepsHold q k (acts c (entry c a ∷ []))
@@ -130,7 +126,8 @@ module _ (limit c q : ℕ) where
   IsSo : List Entry → Type 0
   IsSo log = IsLegal limit log × AllByRecursion (IsStill log) (stands c q log)
 
-  more_so : (log : List Entry) (d : ℕ) (a : Act) → IsLegal limit (log ++ entry d a ∷ []) → AllByRecursion (IsStill log) (stands c q log) → AllByRecursion (IsStill (log ++ entry d a ∷ [])) (stands c q (log ++ entry d a ∷ []))
+  more_so : (log : List Entry) (d : ℕ) (a : Act) → IsLegal limit (log ++ entry d a ∷ []) → AllByRecursion (IsStill log) (stands c q log)
+      → AllByRecursion (IsStill (log ++ entry d a ∷ [])) (stands c q (log ++ entry d a ∷ []))
   more_so log d a legal all = by (eqb c d) refl
     where
       few : (k : ℕ) → count_of k (stands c q log) ≤ times (c, q) (spot k log).calls
@@ -142,7 +139,8 @@ module _ (limit c q : ℕ) where
       by : (b : Bool) → eqb c d ≡ b → AllByRecursion (IsStill (log ++ entry d a ∷ [])) (stands c q (log ++ entry d a ∷ []))
       by true e =
           let same : c ≡ d = eqb-true c d e in
-          subst (λ (x : ℕ). IsLegal limit (log ++ entry x a ∷ []) → ((l : List Act) → acts c (entry x a ∷ []) ≡ l → standing_from q (stands c q log) l ≡ stands c q (log ++ entry x a ∷ [])) → AllByRecursion (IsStill (log ++ entry x a ∷ [])) (stands c q (log ++ entry x a ∷ []))) same
+          subst (λ (x : ℕ). IsLegal limit (log ++ entry x a ∷ []) → ((l : List Act) → acts c (entry x a ∷ []) ≡ l → standing_from q (stands c q log) l ≡ stands c q (log ++ entry x a ∷ []))
+              → AllByRecursion (IsStill (log ++ entry x a ∷ [])) (stands c q (log ++ entry x a ∷ []))) same
           (λ legal after. subst (λ (hs : List Stand). AllByRecursion (IsStill (log ++ entry c a ∷ [])) hs) (after (a ∷ []) (acts_one c a)) (still_done log (stands c q log) a legal few all)) legal after
       by false e =
           let none = acts_other c d a e in
@@ -176,14 +174,16 @@ found_at : (log : List Entry) (x : ℕ × ℕ) (seen : List Seen) (k : ℕ) → 
 found_at log x [] k all = inl refl
 found_at log x (s ∷ seen) k all = by (eqb s.key.0 k) refl (found_at log x seen k all.1)
   where
-    by : (b : Bool) → eqb s.key.0 k ≡ b → (count_in seen k ≡ None) ⊎ ((count_in seen k ≡ Some (spot k log).changes) × (times x (spot k log).calls ≡ 1)) → ((if b then Some s.changes else count_in seen k) ≡ None) ⊎ (((if b then Some s.changes else count_in seen k) ≡ Some (spot k log).changes) × (times x (spot k log).calls ≡ 1))
+    by : (b : Bool) → eqb s.key.0 k ≡ b → (count_in seen k ≡ None) ⊎ ((count_in seen k ≡ Some (spot k log).changes) × (times x (spot k log).calls ≡ 1))
+        → ((if b then Some s.changes else count_in seen k) ≡ None) ⊎ (((if b then Some s.changes else count_in seen k) ≡ Some (spot k log).changes) × (times x (spot k log).calls ≡ 1))
     by true is later = let e = eqb-true s.key.0 k is in inr (ap Some (all.0.2 ∙ ap (λ i. (spot i log).changes) e), ap (λ i. times x (spot i log).calls) (sym e) ∙ all.0.0)
     by false is later = later
 
 held_at : (log : List Entry) (x : ℕ × ℕ) (kept : Kept) (k : ℕ) → HoldsCheck log x kept → (kept_count kept k ≡ None) ⊎ ((kept_count kept k ≡ Some (spot k log).changes) × (times x (spot k log).calls ≡ 1))
 held_at log x kept k h = by (eqb kept.key.0 k) refl
   where
-    by : (b : Bool) → eqb kept.key.0 k ≡ b → ((if b then Some kept.changes else count_in kept.counts.items k) ≡ None) ⊎ (((if b then Some kept.changes else count_in kept.counts.items k) ≡ Some (spot k log).changes) × (times x (spot k log).calls ≡ 1))
+    by : (b : Bool) → eqb kept.key.0 k ≡ b → ((if b then Some kept.changes else count_in kept.counts.items k) ≡ None)
+        ⊎ (((if b then Some kept.changes else count_in kept.counts.items k) ≡ Some (spot k log).changes) × (times x (spot k log).calls ≡ 1))
     by true is = let e = eqb-true kept.key.0 k is in inr (ap Some (h.changes ∙ ap (λ i. (spot i log).changes) e), ap (λ i. times x (spot i log).calls) (sym e) ∙ h.own)
     by false is = found_at log x kept.counts.items k h.found
 

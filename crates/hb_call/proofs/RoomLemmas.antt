@@ -1,14 +1,10 @@
 -- Room for the calls of a caller at each key.
 use Rattle.std.proofs.Common.{◌≡◌, ℕ, ◌+◌, ◌≤◌, List, [], ◌∷◌, ◌++◌, length, sym, refl, ap, ◌∙◌, subst, arith, eq-eqb}
 use Rattle.std.proofs.lemmas.List.{append-nil}
-use Rattle.hb_types.specs.declared.ids.KeyId.{KeyId}
-use Rattle.hb_types.specs.declared.ids.CallNo.{CallNo}
-use Rattle.hb_types.specs.declared.ids.TypeSite.{TypeSite}
+use Rattle.hb_types.specs.declared.{ids.KeyId.KeyId, ids.CallNo.CallNo, ids.TypeSite.TypeSite}
 use Rattle.std.specs.Prelude.{Option}
-use Rattle.hb_tables.specs.declared.entry.TheConstants.{HOLDS_MAX}
-use Rattle.hb_tables.specs.declared.entry.Entry.{Entry}
-use Rattle.hb_tables.specs.declared.entry.Act.{Act}
-use Rattle.hb_tables.specs.declared.entry.Act.TheVariants.{Hold, Free, Call}
+use Rattle.hb_tables.specs.declared.{entry.TheConstants.HOLDS_MAX, entry.Entry.Entry, entry.Act.Act, entry.Act.TheVariants.Hold, entry.Act.TheVariants.Free}
+use Rattle.hb_tables.specs.declared.{entry.Act.TheVariants.Call}
 use Rattle.hb_tables.specs.History.{Spot, spot, times, of_caller, entry, journal, key_of, done, Adds}
 use Rattle.hb_tables.proofs.HistoryLemmas.{journal_append, own_calls, own_times, spread}
 use Rattle.hb_tables.proofs.CallLemmas.{times_own, own_without, length_without}
@@ -35,8 +31,6 @@ room_hold c q key ty n old new adds room =
 pub room_free : (c : ℕ) (q : CallNo) (key : KeyId) (old new : List Entry) → Adds c old new (Free q key) → HasRoom old c q.0 → HasRoom new c q.0
 room_free c q key old new adds room =
     subst (λ w. HasRoom w c q.0) (sym adds.1) (room_more c q.0 (old ++ adds.0) (Free q key)
-    (λ s r. let a = ap length (own_without c q.0 s.calls) in let b = length_without (c, q.0) (of_caller c s.calls) in let d = times_own c q.0 s.calls in let z = none_without (c, q.0) s.calls in omega (arith, r, a, b, d, z))
+    (λ s r. let a = ap length (own_without c q.0 s.calls) in let b = length_without (c, q.0) (of_caller c s.calls) in let d = times_own c q.0 s.calls in let z = none_without (c, q.0) s.calls in
+        omega (arith, r, a, b, d, z))
     (room_learns c q.0 old adds.0 adds.2 room))
-
-pub room_call : (c : ℕ) (q p : CallNo) (key : KeyId) (site : _) (args : _) (v : _) (old : List Entry) → HasRoom old c q.0 → HasRoom (old ++ entry c (Call p key site args v) ∷ []) c q.0
-room_call c q p key site args v old room = room_more c q.0 old (Call p key site args v) (λ s r. r) room

@@ -1,29 +1,19 @@
 -- What a comparison of a call with the check that is kept comes to.
 use Rattle.std.specs.Prelude.{◌≡◌, ◌⊎◌, ℕ, Result, Ok, Err, false, List, [], ◌∷◌, ◌++◌, map, take, drop, slice_get, None, Option, Some, Bool, true}
 use Rattle.std.specs.List.{AllByRecursion}
-use Rattle.hb_types.specs.declared.ids.BodySite.{BodySite}
-use Rattle.hb_types.specs.declared.ids.KeyId.{KeyId}
-use Rattle.hb_types.specs.declared.ids.TypeSite.{TypeSite}
-use Rattle.hb_types.specs.declared.types.MethodTy.{MethodTy}
+use Rattle.hb_types.specs.declared.{ids.BodySite.BodySite, ids.KeyId.KeyId, ids.TypeSite.TypeSite, types.MethodTy.MethodTy}
 use Rattle.hb_deriv.specs.declared.raw.Used.{Used}
 use Rattle.hb_deriv.specs.Programs.{sites_of}
-use Rattle.hb_cache.specs.declared.kept.Kept.{Kept}
-use Rattle.hb_cache.specs.declared.kept.Seen.{Seen}
+use Rattle.hb_cache.specs.declared.{kept.Kept.Kept, kept.Seen.Seen}
 use Rattle.hb_cache.specs.Kept.{kept_at}
-use Rattle.hb_tables.specs.declared.desk.Held.{Held}
+use Rattle.hb_tables.specs.declared.{desk.Held.Held, entry.Act.Act}
 use Rattle.hb_tables.specs.declared.entry.Verdict.TheVariants as verdict
 use Rattle.hb_tables.specs.declared.entry.By.TheVariants as by
-use Rattle.hb_tables.specs.Rows.{kinds_of}
-use Rattle.hb_tables.specs.Verdicts.{takes}
-use Rattle.hb_call.specs.declared.answers.Answer.{Answer}
+use Rattle.hb_tables.specs.{Rows.kinds_of, Verdicts.takes, Frames.StaysLive, Frames.acts}
+use Rattle.hb_call.specs.declared.{answers.Answer.Answer, frame.CallFail.CallFail, ruling.Ended.Ended, ruling.Ruling.Ruling}
 use Rattle.hb_call.specs.Calling.{FitsSince, Given, IsAlike, IsAmong, IsAsking, IsCalling, IsLive, Moment, answers_of}
-use Rattle.hb_call.specs.declared.frame.CallFail.{CallFail}
 use Rattle.hb_call.specs.declared.frame.CallFail.TheVariants as fail
-use Rattle.hb_tables.specs.declared.entry.Act.{Act}
-use Rattle.hb_tables.specs.Frames.{StaysLive, acts}
-use Rattle.hb_call.specs.declared.ruling.Ended.{Ended}
 use Rattle.hb_call.specs.declared.ruling.Ended.TheVariants as ended
-use Rattle.hb_call.specs.declared.ruling.Ruling.{Ruling}
 use Rattle.hb_call.specs.declared.ruling.Ruling.TheVariants as ruling
 use Rattle.hb_call.specs.Deciding.{AreNext, IsRightly, IsVerdictBy}
 

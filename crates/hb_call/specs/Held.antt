@@ -1,16 +1,10 @@
 -- What a call holds.
 use Rattle.std.specs.Prelude.{◌≡◌, ℕ, ◌+◌, ◌<◌, ◌≤◌, List, [], ◌∷◌, ◌++◌, length, map, Option}
 use Rattle.std.specs.List.{AllByRecursion}
-use Rattle.hb_types.specs.declared.ids.CallNo.{CallNo}
-use Rattle.hb_types.specs.declared.ids.KeyId.{KeyId}
+use Rattle.hb_types.specs.declared.{ids.CallNo.CallNo, ids.KeyId.KeyId, ids.BodySite.BodySite}
 use Rattle.hb_names.specs.declared.names.TheConstants.{NAMES_MAX}
-use Rattle.hb_tables.specs.declared.entry.Entry.{Entry}
-use Rattle.hb_tables.specs.declared.entry.Act.{Act}
-use Rattle.hb_tables.specs.declared.entry.Act.TheVariants.{Free, Call}
-use Rattle.hb_tables.specs.declared.entry.ArgKinds.{ArgKinds}
-use Rattle.hb_tables.specs.declared.entry.Verdict.{Verdict}
-use Rattle.hb_types.specs.declared.ids.BodySite.{BodySite}
-use Rattle.hb_tables.specs.declared.entry.TheConstants.{HOLDS_MAX}
+use Rattle.hb_tables.specs.declared.{entry.Entry.Entry, entry.Act.Act, entry.Act.TheVariants.Free, entry.Act.TheVariants.Call, entry.ArgKinds.ArgKinds, entry.Verdict.Verdict}
+use Rattle.hb_tables.specs.declared.{entry.TheConstants.HOLDS_MAX}
 use Rattle.hb_tables.specs.History.{spot, times, of_caller, entry}
 use Rattle.hb_tables.specs.Frames.{acts}
 use Rattle.hb_tables.specs.Standing.{Stand, all_but, standing, count_of}

@@ -3,12 +3,10 @@ use Rattle.std.specs.Prelude.{◌≡◌, ℕ, ◌<◌, ◌≤◌, ◌==◌, List
 use Rattle.hb_types.specs.declared.ids.KeyId.{KeyId}
 use Rattle.hb_deriv.specs.declared.raw.Derivation.{Derivation}
 use Rattle.hb_deriv.specs.Derivation.{IsCopy}
-use Rattle.hb_cache.specs.declared.kept.Kept.{Kept}
-use Rattle.hb_cache.specs.declared.kept.Seen.{Seen}
+use Rattle.hb_cache.specs.declared.{kept.Kept.Kept, kept.Seen.Seen}
 use Rattle.hb_cache.specs.Kept.{kept_at}
 use Rattle.hb_tables.specs.declared.desk.Held.{Held}
-use Rattle.hb_call.specs.declared.answers.Answer.{Answer}
-use Rattle.hb_call.specs.declared.share.TheConstants.{COLLECTED_MAX}
+use Rattle.hb_call.specs.declared.{answers.Answer.Answer, share.TheConstants.COLLECTED_MAX}
 
 -- what is kept of an answer
 abbrev pub seen_of : Answer → Seen

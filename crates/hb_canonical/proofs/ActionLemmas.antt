@@ -1,22 +1,15 @@
 -- What each action leaves on the pile, and what is known of the words that it numbers.
 use Rattle.std.proofs.Common.{◌≡◌, ℕ, pos, ◌+◌, ◌-◌, ◌≤◌, List, ◌∷◌, ◌++◌, length, Bool, false, Option, Some, None, refl, sym, ◌∙◌, ap, subst, arith, position, get_or}
 use Rattle.std.specs.Prelude.{slice_get, bytes_eq, nat_eq, nat_le}
-use Rattle.std.specs.List.{list_any}
-use Rattle.std.specs.Cmp.Lexicographic.{same_text}
-use Rattle.std.proofs.lemmas.List.Quantifiers.{position-Some}
-use Rattle.std.proofs.lemmas.Option.{slice_get-get_or}
-use Rattle.std.proofs.lemmas.Bool.Decides.{nat_tests}
+use Rattle.std.specs.{List.list_any, Cmp.Lexicographic.same_text}
+use Rattle.std.proofs.{lemmas.List.Quantifiers.position-Some, lemmas.Option.slice_get-get_or, lemmas.Bool.Decides.nat_tests}
 use Rattle.hb_lex.specs.Literal.{value_of_number, value_of_text}
-use Rattle.hb_types.specs.declared.types.Ty.{Ty}
+use Rattle.hb_types.specs.declared.{types.Ty.Ty, types.TheConstants.PARAMS_MAX}
 use Rattle.hb_types.specs.declared.types.Ty.TheVariants as ty
-use Rattle.hb_types.specs.declared.types.TheConstants.{PARAMS_MAX}
-use Rattle.hb_tree.specs.declared.limits.TheConstants.{CONSTRUCTS_MAX, SCRIPTS_MAX, TYPES_MAX}
-use Rattle.hb_tree.specs.declared.node.Op.{Op}
+use Rattle.hb_tree.specs.declared.{limits.TheConstants.CONSTRUCTS_MAX, limits.TheConstants.SCRIPTS_MAX, limits.TheConstants.TYPES_MAX, node.Op.Op}
 use Rattle.hb_tree.specs.Tree.{Tree, TNil, TSelf, TInt, TText, TVar, TNew, TAssign, TPrint, TToStr, TNot, TBinary, TIf, TWhile, TCall, TBlock}
 use Rattle.hb_tree.specs.Canon.{bytes_at}
-use Rattle.hb_draft.specs.Made.{word_number}
-use Rattle.hb_draft.specs.Words.{with_word}
-use Rattle.hb_draft.specs.Unfinished.{forest_of}
+use Rattle.hb_draft.specs.{Made.word_number, Words.with_word, Unfinished.forest_of}
 use Rattle.hb_draft.proofs.WordLists.{with_word-begins, with_word-place}
 use Rattle.hb_grammar.specs.declared.actions.Action.TheVariants as a
 use Rattle.hb_build.specs.declared.held.Spot.{Spot}

@@ -2,21 +2,14 @@
 use Rattle.std.proofs.Common.{◌≡◌, ◌≤◌, ℕ, List, refl, sym, ◌∙◌, ap, subst}
 use Rattle.hb_lex.specs.declared.spans.Token.{Token}
 use Rattle.hb_lex.specs.Text.{HasTokens}
+use Rattle.hb_tree.specs.{Canon.canon, Program.IsProgram, Table.Table}
 use Rattle.hb_tree.specs.declared.limits.TheConstants.{CONSTRUCTS_MAX}
-use Rattle.hb_tree.specs.Canon.{canon}
-use Rattle.hb_tree.specs.Program.{IsProgram}
-use Rattle.hb_tree.specs.Table.{Table}
-use Rattle.hb_build.specs.Said.{Said, said_in}
-use Rattle.hb_build.specs.Acts.{Goes, nothing}
 use Rattle.hb_parse.specs.Text.{Says}
+use Rattle.hb_canonical.proofs.{CalmLemmas.deeds-calm, PerformLemmas.deeds-build, ProgramTextLemmas.canonical_deeds, SimulationLemmas.simulated, SourceLemmas.source-depth}
+use Rattle.hb_canonical.proofs.{SourceLemmas.source-words}
+use Rattle.hb_canonical.specs.{Perform.perform, Perform.spots_in, Same.IsSameButPlaces}
 use Rattle.hb_canonical.specs.Deeds.{Deed, bare, deepest, deeds_in, deeds_of}
-use Rattle.hb_canonical.specs.Perform.{perform, spots_in}
-use Rattle.hb_canonical.specs.Same.{IsSameButPlaces}
-use Rattle.hb_canonical.proofs.CalmLemmas.{deeds-calm}
-use Rattle.hb_canonical.proofs.PerformLemmas.{deeds-build}
-use Rattle.hb_canonical.proofs.ProgramTextLemmas.{canonical_deeds}
-use Rattle.hb_canonical.proofs.SimulationLemmas.{simulated}
-use Rattle.hb_canonical.proofs.SourceLemmas.{source-depth, source-words}
+use Rattle.hb_build.specs.{Said.Said, Said.said_in, Acts.Goes, Acts.nothing}
 
 pub reads-back : (text : List ℕ) (tokens : List Token) (t : Table) → HasTokens text tokens → IsProgram t → Says text tokens (said_in t)
     → (others : List Token) → HasTokens (canon t) others → (again : Said) × Says (canon t) others again × IsSameButPlaces (said_in t) again

@@ -4,10 +4,9 @@ use Rattle.std.proofs.lemmas.List.{append-nil}
 use Rattle.hb_tree.specs.declared.limits.TheConstants.{CONSTRUCTS_MAX}
 use Rattle.hb_tree.specs.Tree.{Tree, TBlock, TIf, TWhile}
 use Rattle.hb_draft.specs.Unfinished.{forest_of}
-use Rattle.hb_grammar.specs.declared.actions.Action.{Action}
+use Rattle.hb_grammar.specs.declared.{actions.Action.Action, symbols.Symbol.TheVariants.Phrase as N, symbols.Symbol.TheVariants.Action as A}
 use Rattle.hb_grammar.specs.declared.actions.Action.TheVariants as a
 use Rattle.hb_grammar.specs.declared.symbols.Sort.TheVariants as g
-use Rattle.hb_grammar.specs.declared.symbols.Symbol.TheVariants.{Phrase as N, Action as A}
 use Rattle.hb_build.specs.Pile.{Slot, Operand, Closed, Item, Argument, Own, Block, items_on, below_items, arguments_on, below_arguments}
 use Rattle.hb_build.specs.Acts.{Work}
 use Rattle.hb_canonical.specs.Deeds.{Deed, plain}

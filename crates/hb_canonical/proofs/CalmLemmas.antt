@@ -1,24 +1,18 @@
 -- The deeds of what a program says are calm: each parenthesis opens where an expression begins, or over no argument.
 use Rattle.std.proofs.Common.{◌≡◌, ℕ, zero, suc, List, [], ◌∷◌, ◌++◌, map, Bool, true, false, Option, Some, None, refl, sym, ◌∙◌, ap, subst, append_assoc}
 use Rattle.std.specs.Prelude.{slice_get, nat_lt, if◌then◌else◌, ◌||◌}
-use Rattle.std.specs.Option.{option_map}
-use Rattle.std.specs.List.{flat_map}
-use Rattle.std.specs.Fmt.{signed_decimal}
+use Rattle.std.specs.{Option.option_map, List.flat_map, Fmt.signed_decimal}
 use Rattle.std.proofs.lemmas.List.{append-nil}
-use Rattle.hb_types.specs.declared.ids.NodeId.{NodeId}
-use Rattle.hb_types.specs.declared.ids.NameId.{NameId}
-use Rattle.hb_types.specs.declared.types.Ty.{Ty}
+use Rattle.hb_types.specs.declared.{ids.NodeId.NodeId, ids.NameId.NameId, types.Ty.Ty, types.MethodTy.MethodTy}
 use Rattle.hb_types.specs.declared.types.Ty.TheVariants as ty
-use Rattle.hb_types.specs.declared.types.MethodTy.{MethodTy}
 use Rattle.hb_types.specs.Types.{params_of as param_types_of}
+use Rattle.hb_tree.specs.{Table.Table, Program.IsProgram, Program.IsExprNode}
 use Rattle.hb_tree.specs.declared.node.Node.{Node}
 use Rattle.hb_tree.specs.declared.node.Node.TheVariants as node
 use Rattle.hb_tree.specs.declared.node.Method.TheVariants as method
-use Rattle.hb_tree.specs.Table.{Table}
 use Rattle.hb_tree.specs.Tree.{Tree, Forest, NoTree, Trees}
 use Rattle.hb_tree.specs.Nodes.{args_of, items_of, node_at, block_in}
 use Rattle.hb_tree.specs.TreeAt.{forest_at, tree_at, tree_of, tree_of_place, tree_down}
-use Rattle.hb_tree.specs.Program.{IsProgram, IsExprNode}
 use Rattle.hb_tree.specs.Canon.{bytes_at, quoted, level, least_left, least_right}
 use Rattle.hb_draft.specs.Made.{Given}
 use Rattle.hb_grammar.specs.declared.actions.Action.{Action}

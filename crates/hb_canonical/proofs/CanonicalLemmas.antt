@@ -1,22 +1,17 @@
 -- The canonical text of a program has the tokens that its pieces say.
 use Rattle.std.proofs.Common.{◌≡◌, ℕ, List, [], ◌∷◌, ◌++◌, Option, Some, None, refl, arith}
-use Rattle.std.specs.Prelude.{IfSome}
-use Rattle.std.specs.List.{AllByRecursion, flat_map}
+use Rattle.std.specs.{Prelude.IfSome, List.AllByRecursion, List.flat_map}
 use Rattle.hb_lex.specs.declared.kinds.TokenKind.TheVariants as k
-use Rattle.hb_types.specs.declared.ids.NodeId.{NodeId}
-use Rattle.hb_types.specs.declared.ids.NameId.{NameId}
+use Rattle.hb_types.specs.declared.{ids.NodeId.NodeId, ids.NameId.NameId}
+use Rattle.hb_tree.specs.{Table.Table, Spelling.IsClassName}
 use Rattle.hb_tree.specs.declared.node.Node.{Node}
 use Rattle.hb_tree.specs.declared.node.Node.TheVariants as node
-use Rattle.hb_tree.specs.Table.{Table}
-use Rattle.hb_tree.specs.Nodes.{items_of, numbers_of, node_at}
+use Rattle.hb_tree.specs.{Nodes.items_of, Nodes.numbers_of, Nodes.node_at, Pieces.Piece, Pieces.mark, Pieces.word}
 use Rattle.hb_tree.specs.TreeAt.{forest_at, tree_at, tree_down, tree_of_place}
 use Rattle.hb_tree.specs.Program.{IsProgram, IsBlockNode, IsExprNode, IsRootIn, IsScriptIn}
-use Rattle.hb_tree.specs.Spelling.{IsClassName}
-use Rattle.hb_tree.specs.Pieces.{Piece, mark, word}
 use Rattle.hb_tree.specs.Canon.{own, each, line, lines_of, class_line, setup_lines, script_lines, name_piece, pieces_of, canon}
+use Rattle.hb_canonical.proofs.{SpellLemmas.has_pieces, LeafLemmas.class_token}
 use Rattle.hb_canonical.specs.Canonical.{HasPieces}
-use Rattle.hb_canonical.proofs.SpellLemmas.{has_pieces}
-use Rattle.hb_canonical.proofs.LeafLemmas.{class_token}
 use Rattle.hb_canonical.proofs.LooseLemmas.{AreLines, plain_mark, is_line, lines_append, well}
 use Rattle.hb_canonical.proofs.PieceLemmas.{name_plain, down_plain, down_ends}
 

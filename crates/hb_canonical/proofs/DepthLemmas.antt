@@ -1,13 +1,10 @@
 -- How deep the deeds of what is said go: no deeper than its trees have constructs inside one another.
 use Rattle.std.proofs.Common.{◌≡◌, ℕ, ◌+◌, ◌≤◌, List, [], ◌∷◌, ◌++◌, map, Bool, true, false, Option, Some, None, refl, sym, ap, subst, arith, max, append_assoc}
 use Rattle.std.specs.Prelude.{slice_get, nat_lt, if◌then◌else◌, IfSome}
-use Rattle.std.specs.List.{flat_map, AllByRecursion}
-use Rattle.std.proofs.lemmas.List.{append-nil}
-use Rattle.std.specs.Fmt.{signed_decimal}
-use Rattle.std.proofs.lemmas.Bool.Decides.{nat_tests}
-use Rattle.hb_types.specs.declared.types.Ty.{Ty}
+use Rattle.std.specs.{List.flat_map, List.AllByRecursion, Fmt.signed_decimal}
+use Rattle.std.proofs.{lemmas.List.append-nil, lemmas.Bool.Decides.nat_tests}
+use Rattle.hb_types.specs.declared.{types.Ty.Ty, types.MethodTy.MethodTy}
 use Rattle.hb_types.specs.declared.types.Ty.TheVariants as ty
-use Rattle.hb_types.specs.declared.types.MethodTy.{MethodTy}
 use Rattle.hb_types.specs.Types.{params_of as param_types_of}
 use Rattle.hb_tree.specs.Tree.{Tree, TNil, TTrue, TFalse, TSelf, TInt, TText, TVar, TNew, TAssign, TPrint, TToStr, TNot, TBinary, TIf, TWhile, TCall, TDef, TDefComputed}
 use Rattle.hb_tree.specs.Tree.{TDeclare, TDeclareComputed, TBlock, Forest, NoTree, Trees}
@@ -174,7 +171,7 @@ module _ (m : ℕ) where
         let n : ℕ = max (constructs c) (constructs b) in
         construct (plain a.OpenWord) (plain a.PutWhile) (own s c ++ own s b) [] n (1 + n) (λ d. refl) (λ d. omega arith) (omega arith)
         (append (own s c) (own s b) n (fewer (own s c) (constructs c) n (max-left (constructs c) (constructs b)) (own-shallow s c))
-            (fewer (own s b) (constructs b) n (max-right (constructs c) (constructs b)) (own-shallow s b)))
+        (fewer (own s b) (constructs b) n (max-right (constructs c) (constructs b)) (own-shallow s b)))
         (none (1 + n))
     own-shallow s (TCall id r i args) =
         let n : ℕ = shielded 5 r (constructs r) in
@@ -185,7 +182,7 @@ module _ (m : ℕ) where
         (fewer (wrap 5 r (own s r)) n (max n o) (max-left n o) (wrap-shallow 5 r (own s r) (constructs r) (own-shallow s r)))
         (cons (name s a.HoldCall i) (given ++ last) (max n o) (λ d. refl)
         (append given last (max n o) (fewer given o (max n o) (max-right n o)
-            (arguments-shallow args (each s a.AddArgument args) (constructs_all args) (each-shallow s a.AddArgument args (λ d. refl)))) (single (plain a.PutCall) (max n o) (λ d. refl))))
+        (arguments-shallow args (each s a.AddArgument args) (constructs_all args) (each-shallow s a.AddArgument args (λ d. refl)))) (single (plain a.PutCall) (max n o) (λ d. refl))))
     own-shallow s (TDef id c i site b) =
         let n : ℕ = max 1 (constructs b) in
         definition-shallow s (named s c i) site b n (max-left 1 (constructs b)) (named-shallow s c i n) (fewer (own s b) (constructs b) n (max-right 1 (constructs b)) (own-shallow s b))
@@ -193,7 +190,7 @@ module _ (m : ℕ) where
         let n : ℕ = max (1 + constructs e) (constructs b) in
         let left = max-left (1 + constructs e) (constructs b) in
         definition-shallow s (computed s c (own s e)) site b n (omega arith) (computed-shallow s c (own s e) (constructs e) n left (own-shallow s e))
-            (fewer (own s b) (constructs b) n (max-right (1 + constructs e) (constructs b)) (own-shallow s b))
+        (fewer (own s b) (constructs b) n (max-right (1 + constructs e) (constructs b)) (own-shallow s b))
     own-shallow s (TDeclare id c i site asks) = declaration-shallow s (named s c i) site asks 1 (omega arith) (named-shallow s c i 1)
     own-shallow s (TDeclareComputed id c e site asks) =
         let n : ℕ = 1 + constructs e in
@@ -231,7 +228,7 @@ module _ (m : ℕ) where
   setup-start s (Some b) h =
       start (setup_deeds s (Some b)) (constructs b) h
       (cons (plain a.BeginSetup) (own s b ++ plain a.EndSetup ∷ []) (constructs b) (λ d. refl)
-          (append (own s b) (plain a.EndSetup ∷ []) (constructs b) (own-shallow s b) (single (plain a.EndSetup) (constructs b) (λ d. refl))))
+      (append (own s b) (plain a.EndSetup ∷ []) (constructs b) (own-shallow s b) (single (plain a.EndSetup) (constructs b) (λ d. refl))))
 
   scripts-start : (s : Said) (scripts : List (ℕ × Tree)) → AllByRecursion (λ script. 0 + constructs script.1 ≤ m) scripts → AtStart (flat_map (script_deeds s) scripts)
   scripts-start s [] h = λ ds k. k

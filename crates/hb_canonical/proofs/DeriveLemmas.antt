@@ -1,8 +1,6 @@
 -- How the grammar derives the pieces of canonical text, and with which deeds: one lemma for each form, whatever stands behind.
 use Rattle.std.proofs.Common.{◌≡◌, ℕ, zero, suc, pos, List, [], ◌∷◌, ◌++◌, true, false, refl, subst}
-use Rattle.std.specs.Prelude.{nat_lt, if◌then◌else◌}
-use Rattle.std.specs.List.{flat_map}
-use Rattle.std.specs.Fmt.{signed_decimal}
+use Rattle.std.specs.{Prelude.nat_lt, Prelude.if◌then◌else◌, List.flat_map, Fmt.signed_decimal}
 use Rattle.hb_lex.specs.declared.kinds.TokenKind.TheVariants as k
 use Rattle.hb_lex.specs.Literal.{value_of_number, value_of_text}
 use Rattle.hb_tree.specs.declared.node.Op.{Op}
@@ -11,10 +9,8 @@ use Rattle.hb_tree.specs.Table.{Table}
 use Rattle.hb_tree.specs.Tree.{Tree, TBlock, Forest, NoTree, Trees}
 use Rattle.hb_tree.specs.Pieces.{Piece, mark, joined_paren, line_end, word}
 use Rattle.hb_tree.specs.Canon.{wrap, level, least_left, least_right, op_kind, op_level, own, each, arguments, otherwise, separated, line, quoted}
-use Rattle.hb_grammar.specs.declared.symbols.Sort.{Sort}
+use Rattle.hb_grammar.specs.declared.{symbols.Sort.Sort, symbols.Symbol.Symbol, symbols.Symbol.TheVariants.Phrase as N}
 use Rattle.hb_grammar.specs.declared.symbols.Sort.TheVariants as g
-use Rattle.hb_grammar.specs.declared.symbols.Symbol.{Symbol}
-use Rattle.hb_grammar.specs.declared.symbols.Symbol.TheVariants.{Phrase as N}
 use Rattle.hb_grammar.specs.declared.actions.Action.TheVariants as a
 use Rattle.hb_build.specs.Said.{Said}
 use Rattle.hb_canonical.specs.Deeds as does

@@ -1,19 +1,12 @@
 -- What each action does where it goes on.
 use Rattle.std.proofs.Common.{◌≡◌, ℕ, List, [], ◌∷◌, ◌++◌, length, Bool, true, false, Option, Some, None, refl, sym, ◌∙◌, ap, subst, append_assoc}
-use Rattle.std.specs.Prelude.{slice_get, if◌then◌else◌}
-use Rattle.std.specs.Option.{unwrap_or}
+use Rattle.std.specs.{Prelude.slice_get, Prelude.if◌then◌else◌, Option.unwrap_or}
 use Rattle.std.proofs.lemmas.List.{append-nil}
-use Rattle.hb_tree.specs.Tree.{Tree}
-use Rattle.hb_tree.specs.Counts.{height}
-use Rattle.hb_tree.specs.Grows.{BeginsWith}
-use Rattle.hb_tree.specs.Canon.{bytes_at}
+use Rattle.hb_tree.specs.{Tree.Tree, Counts.height, Grows.BeginsWith, Canon.bytes_at}
 use Rattle.hb_tree.proofs.Lists.{slice_get-begins}
 use Rattle.hb_grammar.specs.declared.actions.Action.{Action}
-use Rattle.hb_build.specs.declared.held.Spot.{Spot}
-use Rattle.hb_build.specs.declared.faults.ParseFail.{ParseFail}
-use Rattle.hb_build.specs.Needs.{needs}
-use Rattle.hb_build.specs.Said.{Said}
-use Rattle.hb_build.specs.Pile.{Slot, has_too_many_nodes}
+use Rattle.hb_build.specs.{Needs.needs, Said.Said, Pile.Slot, Pile.has_too_many_nodes}
+use Rattle.hb_build.specs.declared.{held.Spot.Spot, faults.ParseFail.ParseFail}
 use Rattle.hb_build.specs.Acts.{Work, Answer, Goes, act, complete, passed, unless, fails_if}
 use Rattle.hb_canonical.specs.Deeds.{Deed, deed, looked_at, is_parenthesis}
 

@@ -3,11 +3,8 @@ use Rattle.std.proofs.Common.{◌≡◌, ℕ, zero, suc, ◌+◌, ◌-◌, ◌�
 use Rattle.std.specs.Prelude.{◌&&◌, ◌||◌, nat_eq, nat_lt, bytes_eq}
 use Rattle.std.specs.List.{list_all}
 use Rattle.std.proofs.lemmas.Bool.{and_parts, or_cases, cases_Bool, both_ways, cond-true, cond-false, not-true, or_left, or_parts, ltb-true}
-use Rattle.std.proofs.lemmas.Bool.Decides.{nat_tests}
-use Rattle.std.proofs.lemmas.Slice.Eq.{bytes_eq-Decides}
-use Rattle.std.proofs.lemmas.List.Folds.{list_all-append}
-use Rattle.std.proofs.Math.Seq.{take-append_seam, take-append-add}
-use Rattle.std.proofs.lemmas.List.{length-append}
+use Rattle.std.proofs.{lemmas.Bool.Decides.nat_tests, lemmas.Slice.Eq.bytes_eq-Decides, lemmas.List.Folds.list_all-append, Math.Seq.take-append_seam, Math.Seq.take-append-add}
+use Rattle.std.proofs.{lemmas.List.length-append}
 use Rattle.hb_lex.specs.declared.kinds.TokenKind.{TokenKind}
 use Rattle.hb_lex.specs.declared.kinds.TokenKind.TheVariants as k
 use Rattle.hb_lex.specs.Bytes.{is_blank, is_hash, is_line_feed, is_small, is_capital, is_digit, is_word_byte, is_quote, is_backslash, is_plain, is_escape}
@@ -158,23 +155,8 @@ list_all-at test xs c more h = (and_parts (test c) _ (and_parts (list_all test x
 
 lettered_stops : (kind : TokenKind) (c : ℕ) → is_lettered kind ≡ true → stops_at kind c ≡ true → is_word_or_ask c ≡ false
 unfolding is_lettered
-lettered_stops k.Text c w h = absurd (cc w)
-lettered_stops k.Number c w h = absurd (cc w)
-lettered_stops k.OpenParen c w h = absurd (cc w)
-lettered_stops k.CloseParen c w h = absurd (cc w)
-lettered_stops k.Comma c w h = absurd (cc w)
-lettered_stops k.Colon c w h = absurd (cc w)
-lettered_stops k.Dot c w h = absurd (cc w)
-lettered_stops k.Equals c w h = absurd (cc w)
-lettered_stops k.Less c w h = absurd (cc w)
-lettered_stops k.Times c w h = absurd (cc w)
-lettered_stops k.Concat c w h = absurd (cc w)
-lettered_stops k.Arrow c w h = absurd (cc w)
-lettered_stops k.Separator c w h = absurd (cc w)
-lettered_stops k.Assign c w h = absurd (cc w)
-lettered_stops k.Plus c w h = absurd (cc w)
-lettered_stops k.Minus c w h = absurd (cc w)
-lettered_stops _ c w h = not-true (is_word_or_ask c) h
+lettered_stops k.Text c w h = search not-true
+lettered_stops _ c w h = search not-true
 
 -- no token that begins with a letter goes on behind a byte that no word has
 letter_ends : (b : ℕ) (bs : List ℕ) (c : ℕ) (more : List ℕ) (kind : TokenKind) → is_letter b ≡ true → is_word_or_ask c ≡ false → kind_of (b ∷ (bs ++ c ∷ more)) ≡ Some kind → ⊥

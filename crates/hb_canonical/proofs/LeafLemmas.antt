@@ -1,24 +1,20 @@
 -- Names, class names, texts and numbers of a program are tokens as they are written.
 use Rattle.std.proofs.Common.{◌≡◌, ℕ, ◌+◌, ◌/◌, ◌%◌, ◌^◌, ◌≤◌, ◌<◌, List, [], ◌∷◌, ◌++◌, length, get_or, Bool, true, false, Some, None, refl, sym, ◌∙◌, ap, subst, inl, inr, arith, codes, append_assoc, cond}
 use Rattle.std.specs.Prelude.{◌||◌, nat_eq, nat_lt, bytes_eq, IsTrue, fold}
-use Rattle.std.specs.List.{list_all, list_any, flat_map}
-use Rattle.std.specs.Fmt.{decimal}
+use Rattle.std.specs.{List.list_all, List.list_any, List.flat_map, Fmt.decimal}
 use Rattle.std.proofs.lemmas.Bool.{and_parts, and_from, or_cases, cases_Bool, both_ways, cond-true, cond-false, eqb-true}
-use Rattle.std.proofs.lemmas.Bool.Decides.{nat_tests}
-use Rattle.std.proofs.lemmas.List.Folds.{list_all-append}
-use Rattle.std.proofs.lemmas.Fmt.{decimal_by_steps}
+use Rattle.std.proofs.{lemmas.Bool.Decides.nat_tests, lemmas.List.Folds.list_all-append, lemmas.Fmt.decimal_by_steps}
+use Rattle.hb_lex.specs.{Spelling.words, Spelling.spelled, Tokens.kind_of}
 use Rattle.hb_lex.specs.declared.kinds.TokenKind.TheVariants as k
 use Rattle.hb_lex.specs.declared.faults.LexFail.{LexFail}
 use Rattle.hb_lex.specs.declared.faults.LexFail.TheVariants as fail
 use Rattle.hb_lex.specs.Bytes.{is_small, is_capital, is_digit, is_word_byte, is_quote, is_backslash, is_plain}
 use Rattle.hb_lex.specs.Literal.{is_number, is_closed, value_behind, value_of_number, with_digit}
-use Rattle.hb_lex.specs.Spelling.{words, spelled}
-use Rattle.hb_lex.specs.Tokens.{kind_of}
-use Rattle.hb_lex.proofs.Forms.{none_from, spelled_shape, kind_of_name, kind_of_class, kind_of_text, kind_of_number}
+use Rattle.hb_lex.proofs.Forms.{none_from, spelled_shape, kind_of_name, kind_of_class, kind_of_text, kind_of_number, capital_no_small}
+use Rattle.hb_tree.specs.{Canon.escape, Canon.quoted, Pieces.word}
 use Rattle.hb_tree.specs.Spelling.{IsName, IsClassName, IsText, is_word, is_text_byte, keywords, type_words}
-use Rattle.hb_tree.specs.Canon.{escape, quoted}
-use Rattle.hb_tree.specs.Pieces.{word}
 use Rattle.hb_canonical.proofs.SpellLemmas.{IsToken}
+use Rattle.hb_lex.specs.Sizes.{greatest_number}
 
 abbrev first : List ℕ → ℕ
 first bytes = get_or bytes 0 0
@@ -37,9 +33,6 @@ taken_of_class bytes = list_any (bytes_eq bytes) type_words || is_small (first b
 
 small_no_capital : (b : ℕ) → is_small b ≡ true → is_capital b ≡ false
 small_no_capital b h = grind (arith, nat_tests)
-
-capital_no_small : (b : ℕ) → is_capital b ≡ true → is_small b ≡ false
-capital_no_small b h = grind (arith, nat_tests)
 
 small_word : (b : ℕ) → is_small b ≡ true → is_word_byte b ≡ true
 small_word b h = grind (arith, nat_tests)
@@ -171,5 +164,5 @@ number_token n small =
     let all : AreDigits n (decimal n) = digits_of n (omega arith) in
     record {
       token = number_kind (decimal n) all.0;
-      small = λ at. ap (λ v. cond (nat_lt 9223372036854775807 v) (Some (fail.BigNumber at)) None) all.1 ∙ within 9223372036854775807 n (fail.BigNumber at) (omega arith);
+      small = λ at. ap (λ v. cond (nat_lt greatest_number v) (Some (fail.BigNumber at)) None) all.1 ∙ within greatest_number n (fail.BigNumber at) (omega arith);
     }

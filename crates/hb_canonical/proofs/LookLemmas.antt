@@ -1,18 +1,12 @@
 -- Each action does the same whatever the places and spots: one lemma for each.
 use Rattle.std.proofs.Common.{◌≡◌, ℕ, pos, ◌+◌, ◌-◌, List, [], ◌∷◌, ◌++◌, length, Bool, false, Some, refl, sym, ◌∙◌, ap}
-use Rattle.std.specs.Prelude.{nat_eq, nat_le}
-use Rattle.std.specs.List.{list_any}
+use Rattle.std.specs.{Prelude.nat_eq, Prelude.nat_le, List.list_any}
 use Rattle.std.proofs.lemmas.List.{length-map}
 use Rattle.hb_lex.specs.Literal.{value_of_number, value_of_text}
-use Rattle.hb_types.specs.declared.types.Ty.{Ty}
+use Rattle.hb_types.specs.declared.{types.Ty.Ty, types.MethodTy.MethodTy, types.TheConstants.PARAMS_MAX}
 use Rattle.hb_types.specs.declared.types.Ty.TheVariants as ty
-use Rattle.hb_types.specs.declared.types.MethodTy.{MethodTy}
-use Rattle.hb_types.specs.declared.types.TheConstants.{PARAMS_MAX}
 use Rattle.hb_tree.specs.declared.limits.TheConstants.{TYPES_MAX, CONSTRUCTS_MAX}
 use Rattle.hb_tree.specs.Tree.{Tree, TNil, TSelf, TInt, TText, TVar, TNew, TAssign, TPrint, TToStr, TNot, TBinary, TIf, TWhile, TCall, TDef, TDefComputed, TDeclare, TDeclareComputed, TBlock, id_of}
-use Rattle.hb_draft.specs.Words.{with_word}
-use Rattle.hb_draft.specs.Unfinished.{forest_of}
-use Rattle.hb_draft.specs.Made.{word_number}
 use Rattle.hb_grammar.specs.declared.actions.Action.{Action}
 use Rattle.hb_grammar.specs.declared.actions.Action.TheVariants as a
 use Rattle.hb_build.specs.declared.held.Spot.{Spot}
@@ -27,6 +21,7 @@ use Rattle.hb_canonical.proofs.SeenLemmas.{nowhere, no_place, no_spots, unplaced
 use Rattle.hb_canonical.proofs.SeenLemmas.{seen-arguments, seen-below_arguments, seen-parameters, seen-below_parameters, seen-types, seen-below_types, seen-full}
 use Rattle.hb_canonical.proofs.SeenLemmas.{seen-declaring, seen-many_calls, seen-many_variables}
 use Rattle.hb_canonical.proofs.SeenLemmas as on
+use Rattle.hb_draft.specs.{Words.with_word, Unfinished.forest_of, Made.word_number}
 
 -- where a construct opens there is room for it
 abbrev pub HasRoom : Action → ℕ → Type 0

@@ -3,15 +3,12 @@ use Rattle.std.proofs.Common.{◌≡◌, ℕ, ◌<◌, List, [], ◌∷◌, ◌+
 use Rattle.std.specs.Prelude.{◌&&◌, ◌||◌, nat_eq, if◌then◌else◌}
 use Rattle.std.specs.List.{list_all, list_any, AllByRecursion}
 use Rattle.std.proofs.lemmas.Bool.{and_parts, or_cases, both_ways, eqb-true}
+use Rattle.hb_lex.specs.{Spelling.spelling, Tokens.kind_of, Tokens.excess, Text.separates}
 use Rattle.hb_lex.specs.declared.kinds.TokenKind.{TokenKind}
 use Rattle.hb_lex.specs.declared.kinds.TokenKind.TheVariants as k
-use Rattle.hb_lex.specs.Spelling.{spelling}
-use Rattle.hb_lex.specs.Tokens.{kind_of, excess}
-use Rattle.hb_lex.specs.Text.{separates}
 use Rattle.hb_lex.proofs.Forms.{empty_none, kind_of_spelling}
 use Rattle.hb_tree.specs.Pieces.{Piece, mark, joined_paren, line_end, spell_behind}
-use Rattle.hb_canonical.proofs.JoinLemmas.{stops_at, stops}
-use Rattle.hb_canonical.proofs.SpellLemmas.{IsToken, IsPiece, IsWell}
+use Rattle.hb_canonical.proofs.{JoinLemmas.stops_at, JoinLemmas.stops, SpellLemmas.IsToken, SpellLemmas.IsPiece, SpellLemmas.IsWell}
 
 -- the marks that join nothing behind them
 abbrev joins_none : TokenKind → Bool

@@ -1,20 +1,17 @@
 -- The alternatives of expressions, but for methods: what they do to the work, and what their deeds are.
 use Rattle.std.proofs.Common.{◌≡◌, ℕ, pos, ◌+◌, ◌-◌, ◌≤◌, List, [], ◌∷◌, ◌++◌, length, true, false, refl, sym, ◌∙◌, ap, arith}
 use Rattle.hb_lex.specs.Literal.{value_of_number}
-use Rattle.hb_tree.specs.declared.limits.TheConstants.{CONSTRUCTS_MAX}
-use Rattle.hb_tree.specs.declared.node.Op.{Op}
+use Rattle.hb_tree.specs.declared.{limits.TheConstants.CONSTRUCTS_MAX, node.Op.Op}
 use Rattle.hb_tree.specs.declared.node.Op.TheVariants as op
 use Rattle.hb_tree.specs.Tree.{Tree, TNil, TTrue, TFalse, TSelf, TInt, TText, TVar, TNew, TAssign, TPrint, TToStr, TNot, TBinary, TCall}
 use Rattle.hb_tree.specs.Canon.{quoted, op_level, least_left, least_right}
 use Rattle.hb_draft.specs.Unfinished.{forest_of}
 use Rattle.hb_grammar.specs.declared.actions.Action.TheVariants as a
-use Rattle.hb_grammar.specs.declared.symbols.Sort.{Sort}
+use Rattle.hb_grammar.specs.declared.{symbols.Sort.Sort, symbols.Symbol.TheVariants.Phrase as N, symbols.Symbol.TheVariants.Action as A}
 use Rattle.hb_grammar.specs.declared.symbols.Sort.TheVariants as g
-use Rattle.hb_grammar.specs.declared.symbols.Symbol.TheVariants.{Phrase as N, Action as A}
+use Rattle.hb_build.specs.{Said.Said, Acts.Work}
 use Rattle.hb_build.specs.declared.held.Spot.{Spot}
-use Rattle.hb_build.specs.Said.{Said}
 use Rattle.hb_build.specs.Pile.{Slot, Operand, Own, Word, Target, Called, OfClass, arguments_on, below_arguments}
-use Rattle.hb_build.specs.Acts.{Work}
 use Rattle.hb_canonical.specs.Deeds.{Deed, deed, plain, name, class}
 use Rattle.hb_canonical.proofs.PlainLemmas.{plainly, plain_each}
 use Rattle.hb_canonical.proofs.ConstructLemmas.{constructs, constructs_all, shielded, enclosed, max-fits, shielded-least, shielded-most, shielded-more}

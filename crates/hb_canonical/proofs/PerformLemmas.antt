@@ -1,38 +1,28 @@
 -- What the actions of a text build, its deeds build with no sight of the text.
 use Rattle.std.proofs.Common.{◌≡◌, ℕ, zero, suc, pos, ◌+◌, ◌<◌, ◌^◌, List, [], ◌∷◌, ◌++◌, drop, false, Option, Some, None, Ok, refl, sym, ◌∙◌, ap, subst, inl, inr, arith, add-one, append_assoc, codes}
-use Rattle.std.specs.Prelude.{All, nat_eq}
-use Rattle.std.specs.List.{flat_map}
-use Rattle.std.specs.Fmt.{signed_decimal}
+use Rattle.std.specs.{Prelude.All, Prelude.nat_eq, List.flat_map, Fmt.signed_decimal}
 use Rattle.std.proofs.lemmas.Bool.{cases_Bool, cond-true, cond-false, eqb-true}
-use Rattle.hb_lex.specs.declared.kinds.TokenKind.{TokenKind}
-use Rattle.hb_lex.specs.declared.spans.Token.{Token}
-use Rattle.hb_lex.specs.Bytes.{is_quote, is_backslash}
+use Rattle.hb_lex.specs.{Bytes.is_quote, Bytes.is_backslash, Tokens.Stands, Tokens.bytes_of, Text.HasTokens}
+use Rattle.hb_lex.specs.declared.{kinds.TokenKind.TokenKind, spans.Token.Token}
 use Rattle.hb_lex.specs.Literal.{value_of_number, value_of_text, value_behind}
-use Rattle.hb_lex.specs.Tokens.{Stands, bytes_of}
-use Rattle.hb_lex.specs.Text.{HasTokens}
 use Rattle.hb_lex.proofs.Standing.{stands_from}
-use Rattle.hb_tree.specs.Tree.{TInt, TText}
-use Rattle.hb_tree.specs.Canon.{escape, quoted}
-use Rattle.hb_draft.specs.Words.{with_word}
-use Rattle.hb_draft.specs.Made.{word_number}
-use Rattle.hb_grammar.specs.declared.actions.Action.{Action}
+use Rattle.hb_grammar.specs.declared.{actions.Action.Action, symbols.Symbol.Symbol, symbols.Symbol.TheVariants.Token as T, symbols.Symbol.TheVariants.Phrase as N}
+use Rattle.hb_grammar.specs.declared.{symbols.Symbol.TheVariants.Action as A}
 use Rattle.hb_grammar.specs.declared.actions.Action.TheVariants as a
-use Rattle.hb_grammar.specs.declared.symbols.Symbol.{Symbol}
-use Rattle.hb_grammar.specs.declared.symbols.Symbol.TheVariants.{Token as T, Phrase as N, Action as A}
 use Rattle.hb_grammar.specs.Language.{Act, act as act_at, Translates, HasActions, kinds_of, program}
+use Rattle.hb_build.specs.{Needs.needs, Needs.HasToken, Tags.leaves}
 use Rattle.hb_build.specs.declared.held.Spot.{Spot}
 use Rattle.hb_build.specs.Acts.{Work, Answer, Goes, Fails, Lost, act, leaf}
-use Rattle.hb_build.specs.Needs.{needs, HasToken}
 use Rattle.hb_build.specs.Follow.{follow, and_then, spot_of, bytes_in, last_of}
-use Rattle.hb_build.specs.Tags.{leaves}
 use Rattle.hb_build.specs.Fits.{State, Fits, unused}
-use Rattle.hb_build.proofs.FitLemmas.{fits-program, fits-token, fits-phrase, fits-has_token}
+use Rattle.hb_build.proofs.FitLemmas.{fits-program, fits-token, fits-phrase, fits-has_token, still-known}
 use Rattle.hb_build.proofs.LeafLemmas.{number-small}
-use Rattle.hb_parse.proofs.TokenLemmas.{token-has}
-use Rattle.hb_parse.proofs.CourseLemmas.{read-kind, all-at}
-use Rattle.hb_canonical.specs.Deeds.{looked_at, deeds_in}
-use Rattle.hb_canonical.specs.Perform.{perform, spots_in}
+use Rattle.hb_canonical.specs.{Deeds.looked_at, Deeds.deeds_in, Perform.perform, Perform.spots_in}
 use Rattle.hb_canonical.proofs.LeafLemmas.{digits_of}
+use Rattle.hb_tree.specs.{Tree.TInt, Tree.TText, Canon.escape, Canon.quoted}
+use Rattle.hb_draft.specs.{Words.with_word, Made.word_number}
+use Rattle.hb_parse.proofs.{TokenLemmas.token-has, CourseLemmas.read-kind, CourseLemmas.all-at}
+use Rattle.hb_parse.proofs.FollowLemmas.{then-same}
 
 -- ── literals that are spelled anew keep their value ──
 
@@ -82,15 +72,6 @@ act-anew a.PutText p bytes w h = ap (λ v. put_text p v w) (sym (text-anew (valu
 act-anew _ p bytes w h = refl
 
 -- ── all of them ──
-
-then-same : (answer : Answer) (f g : Work → Answer) → ((w : Work) → f w ≡ g w) → and_then answer f ≡ and_then answer g
-then-same (Goes w) f g same = same w
-then-same (Fails fault) f g same = refl
-then-same Lost f g same = refl
-
-still-known : (need last : Option TokenKind) (bytes : List ℕ) → HasToken last bytes → HasToken (unused need last) bytes
-still-known None last bytes h = h
-still-known (Some j) last bytes h = tt
 
 module _ (text : List ℕ) (tokens : List Token) (standing : All (Stands text) tokens) where
   abbrev Same : List Act → Work → Type 0

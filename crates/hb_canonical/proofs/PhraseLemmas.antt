@@ -1,22 +1,17 @@
 -- What each sort of phrase does to the work, and what its deeds are: a way through symbols.
 use Rattle.std.proofs.Common.{◌≡◌, ℕ, ◌+◌, ◌≤◌, List, [], ◌∷◌, ◌++◌, length, Option, None}
-use Rattle.std.specs.Prelude.{IfSome}
-use Rattle.std.specs.List.{AllByRecursion}
-use Rattle.hb_types.specs.declared.types.Ty.{Ty}
-use Rattle.hb_types.specs.declared.types.TheConstants.{PARAMS_MAX}
+use Rattle.std.specs.{Prelude.IfSome, List.AllByRecursion}
+use Rattle.hb_types.specs.declared.{types.Ty.Ty, types.TheConstants.PARAMS_MAX}
 use Rattle.hb_tree.specs.declared.limits.TheConstants.{CONSTRUCTS_MAX}
 use Rattle.hb_tree.specs.Tree.{Tree, TBlock, Forest}
 use Rattle.hb_draft.specs.Unfinished.{forest_of}
-use Rattle.hb_grammar.specs.declared.actions.Action.{Action}
+use Rattle.hb_grammar.specs.declared.{actions.Action.Action, symbols.Sort.Sort, symbols.Symbol.Symbol, symbols.Symbol.TheVariants.Token as T}
+use Rattle.hb_grammar.specs.declared.{symbols.Symbol.TheVariants.Phrase as N, symbols.Symbol.TheVariants.Action as A}
 use Rattle.hb_grammar.specs.declared.actions.Action.TheVariants as a
-use Rattle.hb_grammar.specs.declared.symbols.Sort.{Sort}
 use Rattle.hb_grammar.specs.declared.symbols.Sort.TheVariants as g
-use Rattle.hb_grammar.specs.declared.symbols.Symbol.{Symbol}
-use Rattle.hb_grammar.specs.declared.symbols.Symbol.TheVariants.{Token as T, Phrase as N, Action as A}
+use Rattle.hb_build.specs.{Said.Said, Acts.Work}
 use Rattle.hb_build.specs.declared.held.Spot.{Spot}
-use Rattle.hb_build.specs.Said.{Said}
 use Rattle.hb_build.specs.Pile.{Slot, Operand, Closed, Word, OfClass, Named, Computed, OfType, Block, items_on, below_items, arguments_on, below_arguments, parameters_on, below_parameters, types_on, below_types}
-use Rattle.hb_build.specs.Acts.{Work}
 use Rattle.hb_canonical.specs.Deeds.{Deed, plain, name, class, type_deed}
 use Rattle.hb_canonical.proofs.PlainLemmas.{plainly, plain_each, plain_names, plain_types, plain_classes, plain_setup, plain_scripts}
 use Rattle.hb_canonical.proofs.ConstructLemmas.{constructs, constructs_all, shielded, enclosed}

@@ -1,31 +1,23 @@
 -- The pieces of a program's trees are tokens, and a line feed behind an expression separates.
 use Rattle.std.proofs.Common.{◌≡◌, ℕ, zero, suc, ◌<◌, ◌≤◌, ◌≤ℤ◌, pos, negsuc, List, [], ◌∷◌, ◌++◌, map, length, Bool, true, false, Option, Some, None, refl, sym, subst, arith}
 use Rattle.std.specs.Prelude.{slice_get, nat_lt, if◌then◌else◌}
-use Rattle.std.specs.Option.{option_map}
-use Rattle.std.specs.List.{AllByRecursion, flat_map}
+use Rattle.std.specs.{Option.option_map, List.AllByRecursion, List.flat_map}
 use Rattle.hb_lex.specs.declared.kinds.TokenKind.{TokenKind}
 use Rattle.hb_lex.specs.declared.kinds.TokenKind.TheVariants as k
 use Rattle.hb_lex.specs.Text.{separates}
-use Rattle.hb_types.specs.declared.ids.NodeId.{NodeId}
-use Rattle.hb_types.specs.declared.types.Ty.{Ty}
+use Rattle.hb_types.specs.declared.{ids.NodeId.NodeId, types.Ty.Ty, types.MethodTy.MethodTy}
 use Rattle.hb_types.specs.declared.types.Ty.TheVariants as ty
-use Rattle.hb_types.specs.declared.types.MethodTy.{MethodTy}
 use Rattle.hb_types.specs.Types.{params_of as param_types_of}
-use Rattle.hb_tree.specs.declared.node.Op.{Op}
+use Rattle.hb_tree.specs.declared.{node.Op.Op, node.Node.Node, parts.Body.Body}
 use Rattle.hb_tree.specs.declared.node.Op.TheVariants as op
-use Rattle.hb_tree.specs.declared.node.Node.{Node}
 use Rattle.hb_tree.specs.declared.node.Node.TheVariants as node
 use Rattle.hb_tree.specs.declared.node.Method.TheVariants as method
-use Rattle.hb_tree.specs.declared.parts.Body.{Body}
-use Rattle.hb_tree.specs.Table.{Table}
-use Rattle.hb_tree.specs.Tree.{Tree, TBlock, NoTree}
+use Rattle.hb_tree.specs.{Table.Table, Tree.Tree, Tree.TBlock, Tree.NoTree, Pieces.Piece, Pieces.mark, Pieces.joined_paren, Spelling.IsName, Spelling.IsClassName, Spelling.IsText}
 use Rattle.hb_tree.specs.Nodes.{args_of, items_of, node_at, params_of, block_in}
 use Rattle.hb_tree.specs.TreeAt.{forest_at, tree_of, tree_of_place, tree_down}
 use Rattle.hb_tree.specs.Program.{IsProgram, IsExprNode, IsTyIn, IsMethodTyIn}
-use Rattle.hb_tree.specs.Pieces.{Piece, mark, joined_paren}
 use Rattle.hb_tree.specs.Canon.{own, each, wrap, least_left, least_right, op_kind, level, arguments, otherwise, separated, named, computed, parameters, parameters_of}
 use Rattle.hb_tree.specs.Canon.{signature, signature_of, declares, name_piece, class_piece, type_piece, bytes_at}
-use Rattle.hb_tree.specs.Spelling.{IsName, IsClassName, IsText}
 use Rattle.hb_tree.proofs.Lists.{each_append, each_at, past_none}
 use Rattle.hb_canonical.proofs.LeafLemmas.{name_token, class_token, text_token, number_token}
 use Rattle.hb_canonical.proofs.LooseLemmas.{IsPlain, ArePlain, plain_mark, plain_paren, last_kind, Ends, ends_append}
@@ -165,7 +157,7 @@ module _ (t : Table) (ok : IsProgram t) where
   signature_ends ps (Some m) h =
       let pss : List (List Piece) = map (λ y. type_piece t y ∷ []) (param_types_of m) in
       ends_append ps (signature_of t (Some m)) (ends_append (mark k.Colon ∷ mark k.OpenParen ∷ separated (mark k.Comma) pss) (mark k.CloseParen ∷ mark k.Arrow ∷ type_piece t m.result ∷ [])
-          (λ before. type_ends m.result (Some k.Arrow)))
+      (λ before. type_ends m.result (Some k.Arrow)))
 
   named_plain : (c m : ℕ) → c < length t.classes → m < length t.names → ArePlain (named t c m)
   named_plain c m p q = (class_plain c p, (plain_mark k.Dot (omega arith), (name_plain m q, tt)))

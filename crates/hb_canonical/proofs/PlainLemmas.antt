@@ -1,11 +1,9 @@
 -- The deeds of what is said without parentheses, with others behind.
 use Rattle.std.proofs.Common.{◌≡◌, ℕ, List, [], ◌∷◌, ◌++◌, map, Bool, true, false, Option, Some, None, refl, ap, ◌∙◌, append_assoc}
 use Rattle.std.specs.Prelude.{slice_get, nat_lt, if◌then◌else◌}
-use Rattle.std.specs.List.{flat_map}
-use Rattle.std.specs.Fmt.{signed_decimal}
-use Rattle.hb_types.specs.declared.types.Ty.{Ty}
+use Rattle.std.specs.{List.flat_map, Fmt.signed_decimal}
+use Rattle.hb_types.specs.declared.{types.Ty.Ty, types.MethodTy.MethodTy}
 use Rattle.hb_types.specs.declared.types.Ty.TheVariants as ty
-use Rattle.hb_types.specs.declared.types.MethodTy.{MethodTy}
 use Rattle.hb_types.specs.Types.{params_of as param_types_of}
 use Rattle.hb_tree.specs.Tree.{Tree, TNil, TTrue, TFalse, TSelf, TInt, TText, TVar, TNew, TAssign, TPrint, TToStr, TNot, TBinary, TIf, TWhile, TCall, TDef, TDefComputed}
 use Rattle.hb_tree.specs.Tree.{TDeclare, TDeclareComputed, TBlock, Forest, NoTree, Trees}
@@ -181,7 +179,7 @@ mutual
   bare_own s (TDeclare id c m site asks) ds =
       ap (λ rest. plain a.HoldDeclare ∷ class s a.HoldClass c ∷ name s a.NameMethod m ∷ rest)
       (first (signature_of s (slice_get s.types site)) (plain (a.PutDeclare asks) ∷ []) (plain_signature s (slice_get s.types site)) (bare_signature s (slice_get s.types site)) ds
-          (plain (a.PutDeclare asks) ∷ bare ds) refl)
+      (plain (a.PutDeclare asks) ∷ bare ds) refl)
   bare_own s (TDeclareComputed id c e site asks) ds =
       let end : List Deed = plain a.Close ∷ plain a.ComputeMethod ∷ [] in
       let type : List Deed = signature_of s (slice_get s.types site) in

@@ -1,28 +1,19 @@
 -- The tokens of a program's canonical text are a program's, and what is done for them is known.
 use Rattle.std.proofs.Common.{◌≡◌, ℕ, zero, suc, pos, negsuc, ◌<◌, ◌≤ℤ◌, List, [], ◌∷◌, ◌++◌, map, Bool, true, false, Option, Some, None, Ok, refl, sym, subst, arith}
 use Rattle.std.specs.Prelude.{slice_get, IfSome, IsSomeAnd}
-use Rattle.std.specs.Option.{option_map}
-use Rattle.std.specs.List.{AllByRecursion, flat_map}
-use Rattle.std.specs.Fmt.{signed_decimal}
-use Rattle.std.proofs.lemmas.List.{append-nil}
-use Rattle.std.proofs.lemmas.Option.{slice_get-map}
-use Rattle.hb_lex.specs.declared.kinds.TokenKind.{TokenKind}
+use Rattle.std.specs.{Option.option_map, List.AllByRecursion, List.flat_map, Fmt.signed_decimal}
+use Rattle.std.proofs.{lemmas.List.append-nil, lemmas.Option.slice_get-map}
+use Rattle.hb_lex.specs.declared.{kinds.TokenKind.TokenKind, spans.Token.Token}
 use Rattle.hb_lex.specs.declared.kinds.TokenKind.TheVariants as k
-use Rattle.hb_lex.specs.declared.spans.Token.{Token}
 use Rattle.hb_lex.specs.Text.{HasTokens}
 use Rattle.hb_lex.proofs.One.{one_answer}
-use Rattle.hb_types.specs.declared.ids.NameId.{NameId}
-use Rattle.hb_types.specs.declared.ids.NodeId.{NodeId}
-use Rattle.hb_types.specs.declared.types.Ty.{Ty}
+use Rattle.hb_types.specs.declared.{ids.NameId.NameId, ids.NodeId.NodeId, types.Ty.Ty, types.MethodTy.MethodTy}
 use Rattle.hb_types.specs.declared.types.Ty.TheVariants as ty
-use Rattle.hb_types.specs.declared.types.MethodTy.{MethodTy}
 use Rattle.hb_types.specs.Types.{params_of as param_types_of}
-use Rattle.hb_tree.specs.declared.node.Node.{Node}
+use Rattle.hb_tree.specs.{Table.Table, Tree.Tree, Tree.Forest}
+use Rattle.hb_tree.specs.declared.{node.Node.Node, parts.Body.Body}
 use Rattle.hb_tree.specs.declared.node.Node.TheVariants as node
 use Rattle.hb_tree.specs.declared.node.Method.TheVariants as method
-use Rattle.hb_tree.specs.declared.parts.Body.{Body}
-use Rattle.hb_tree.specs.Table.{Table}
-use Rattle.hb_tree.specs.Tree.{Tree, Forest}
 use Rattle.hb_tree.specs.Nodes.{args_of, items_of, node_at, numbers_of, params_of, block_in}
 use Rattle.hb_tree.specs.TreeAt.{forest_at, tree_at, tree_of, tree_of_place, tree_down}
 use Rattle.hb_tree.specs.Program.{IsProgram, IsBlockNode, IsExprNode, IsRootIn, IsScriptIn}
@@ -31,16 +22,14 @@ use Rattle.hb_tree.specs.Canon.{own, each, level, arguments, otherwise, separate
 use Rattle.hb_tree.specs.Canon.{type_piece, bytes_at, quoted, line, lines_of, class_line, setup_lines, script_lines, pieces_of, canon}
 use Rattle.hb_draft.specs.Made.{Given, given_by, type_of}
 use Rattle.hb_grammar.specs.declared.symbols.Sort.TheVariants as g
-use Rattle.hb_grammar.specs.declared.symbols.Symbol.{Symbol}
-use Rattle.hb_grammar.specs.declared.symbols.Symbol.TheVariants.{Token as T, Phrase as N, Action as A}
+use Rattle.hb_grammar.specs.declared.{symbols.Symbol.Symbol, symbols.Symbol.TheVariants.Token as T, symbols.Symbol.TheVariants.Phrase as N, symbols.Symbol.TheVariants.Action as A}
 use Rattle.hb_grammar.specs.declared.actions.Action.TheVariants as a
 use Rattle.hb_grammar.specs.Language.{Act, HasActions, IsProgramText, Translates, kinds_of, program}
 use Rattle.hb_build.specs.Said.{Said, said_in}
+use Rattle.hb_canonical.proofs.{CanonicalLemmas.canonical_pieces, PerformLemmas.number-anew, PerformLemmas.text-anew}
 use Rattle.hb_canonical.specs.Canonical.{HasPieces}
 use Rattle.hb_canonical.specs.Deeds as does
 use Rattle.hb_canonical.specs.Deeds.{Deed, deed, plain, deeds_in, deeds_of}
-use Rattle.hb_canonical.proofs.CanonicalLemmas.{canonical_pieces}
-use Rattle.hb_canonical.proofs.PerformLemmas.{number-anew, text-anew}
 use Rattle.hb_canonical.proofs.SentenceLemmas.{Sentence, over, token, action, looks, choose, split, join, piece_kinds, derives, acts}
 use Rattle.hb_canonical.proofs.DeriveLemmas as d
 use Rattle.hb_canonical.proofs.DeriveLemmas.{Leads, Holds, AsExpression, AreExpressions, AsPostfix, AsBlock, whole, value}

@@ -1,22 +1,18 @@
 -- The alternatives of whole texts: classes, the setup and scripts.
 use Rattle.std.proofs.Common.{◌≡◌, ℕ, List, [], ◌∷◌, ◌++◌, length, Option, Some, None, refl, sym, ◌∙◌, ap, subst, arith, append_assoc}
-use Rattle.std.specs.Prelude.{bytes_eq, nat_le}
-use Rattle.std.specs.List.{list_any}
+use Rattle.std.specs.{Prelude.bytes_eq, Prelude.nat_le, List.list_any}
 use Rattle.std.proofs.lemmas.List.{append-nil}
 use Rattle.hb_tree.specs.declared.limits.TheConstants.{CLASSES_MAX, SCRIPTS_MAX}
 use Rattle.hb_tree.specs.Tree.{Tree}
 use Rattle.hb_grammar.specs.declared.actions.Action.TheVariants as a
 use Rattle.hb_grammar.specs.declared.symbols.Sort.TheVariants as g
 use Rattle.hb_grammar.specs.declared.symbols.Symbol.TheVariants.{Phrase as N, Action as A}
-use Rattle.hb_build.specs.Said.{Said}
+use Rattle.hb_build.specs.{Said.Said, Acts.Work}
 use Rattle.hb_build.specs.Pile.{Slot, Closed, Setup, Script}
-use Rattle.hb_build.specs.Acts.{Work}
+use Rattle.hb_canonical.proofs.{PlainLemmas.plainly, ActionLemmas.does-begin_setup, ActionLemmas.does-begin_script, BlockLemmas.block_ends}
 use Rattle.hb_canonical.specs.Deeds.{Deed, deed, plain, name}
-use Rattle.hb_canonical.proofs.PlainLemmas.{plainly}
 use Rattle.hb_canonical.proofs.EffectLemmas.{Later, Moves, Does, begins-same, later-same, later-then, goes-same, goes-passed, at-pile}
-use Rattle.hb_canonical.proofs.ActionLemmas.{does-begin_setup, does-begin_script}
 use Rattle.hb_canonical.proofs.PhraseLemmas.{Blocks, ScriptsMore, ScriptsFit, SetupFits, Way}
-use Rattle.hb_canonical.proofs.BlockLemmas.{block_ends}
 
 module _ (w : Work) (ds : List Deed) (v : Work) (es : List Deed) where
   abbrev Becomes : Said → List Slot → Type 0

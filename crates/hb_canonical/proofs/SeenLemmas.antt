@@ -7,8 +7,7 @@ use Rattle.hb_types.specs.declared.types.Ty.{Ty}
 use Rattle.hb_types.specs.declared.types.Ty.TheVariants as ty
 use Rattle.hb_tree.specs.Tree.{Tree}
 use Rattle.hb_tree.specs.Counts.{height, nodes_in, calls_in, names_assigned_in}
-use Rattle.hb_build.specs.declared.held.Spot.{Spot}
-use Rattle.hb_build.specs.declared.faults.ParseFail.{ParseFail}
+use Rattle.hb_build.specs.declared.{held.Spot.Spot, faults.ParseFail.ParseFail}
 use Rattle.hb_build.specs.declared.faults.ParseFail.TheVariants as fail
 use Rattle.hb_build.specs.declared.faults.Limit.TheVariants as limit
 use Rattle.hb_build.specs.Said.{Said}

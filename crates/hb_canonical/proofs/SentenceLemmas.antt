@@ -1,18 +1,14 @@
 -- Pieces that the grammar derives, with the deeds on the way; and that these are the deeds of the text with the pieces' tokens.
 use Rattle.std.proofs.Common.{◌≡◌, ℕ, zero, suc, ◌+◌, List, [], ◌∷◌, ◌++◌, map, drop, slice_get, Bool, true, false, None, refl, sym, ◌∙◌, ap, subst, inl, inr, add-one, append_assoc}
-use Rattle.hb_lex.specs.declared.kinds.TokenKind.{TokenKind}
-use Rattle.hb_lex.specs.declared.spans.Token.{Token}
+use Rattle.hb_lex.specs.declared.{kinds.TokenKind.TokenKind, spans.Token.Token}
 use Rattle.hb_lex.specs.Tokens.{bytes_of}
 use Rattle.hb_tree.specs.Pieces.{Piece}
-use Rattle.hb_grammar.specs.declared.actions.Action.{Action}
-use Rattle.hb_grammar.specs.declared.symbols.Sort.{Sort}
-use Rattle.hb_grammar.specs.declared.symbols.Symbol.{Symbol}
-use Rattle.hb_grammar.specs.declared.symbols.Symbol.TheVariants.{Token as T, Phrase as N, Action as A}
+use Rattle.hb_grammar.specs.declared.{actions.Action.Action, symbols.Sort.Sort, symbols.Symbol.Symbol, symbols.Symbol.TheVariants.Token as T}
+use Rattle.hb_grammar.specs.declared.{symbols.Symbol.TheVariants.Phrase as N, symbols.Symbol.TheVariants.Action as A}
 use Rattle.hb_grammar.specs.Grammar.{alternatives}
 use Rattle.hb_grammar.specs.Language.{Act, act, IsOneOf, Derives, Translates, kinds_of}
-use Rattle.hb_build.specs.Needs.{needs}
-use Rattle.hb_build.specs.Follow.{bytes_in, last_of}
 use Rattle.hb_canonical.specs.Deeds.{Deed, deed, plain, looked_at, deed_in, deeds_in}
+use Rattle.hb_build.specs.{Needs.needs, Follow.bytes_in, Follow.last_of}
 
 -- The symbols derive the pieces, behind one with these bytes, in at most n steps, and these are the deeds on the way.
 abbrev pub Yields : ℕ → List Symbol → List ℕ → List Piece → List Deed → Type 0

@@ -2,8 +2,7 @@
 use Rattle.std.proofs.Common.{◌≡◌, ℕ, suc, ◌+◌, ◌≤◌, List, [], ◌∷◌, length, Bool, true, false, Option, Some, None, refl, sym, ◌∙◌, ap, subst, inl, inr, arith}
 use Rattle.std.specs.Prelude.{nat_le, if◌then◌else◌, ◌||◌, ◌&&◌}
 use Rattle.std.proofs.lemmas.Bool.{cases_Bool, or_cases, and_parts}
-use Rattle.std.proofs.lemmas.Bool.Decides.{nat_tests}
-use Rattle.std.proofs.lemmas.List.{length-map}
+use Rattle.std.proofs.{lemmas.Bool.Decides.nat_tests, lemmas.List.length-map}
 use Rattle.hb_tree.specs.declared.limits.TheConstants.{CONSTRUCTS_MAX}
 use Rattle.hb_tree.specs.Tree.{Tree}
 use Rattle.hb_grammar.specs.declared.actions.Action.{Action}
@@ -14,14 +13,11 @@ use Rattle.hb_build.specs.declared.faults.Limit.TheVariants as limit
 use Rattle.hb_build.specs.Pile.{Slot, Word, OfClass, Operand, is_full}
 use Rattle.hb_build.specs.Acts.{Work, Answer, Goes, Fails, Lost, act, class_of, nothing, opened, closed, with_known, with_name, with_class, with_operand}
 use Rattle.hb_build.specs.Follow.{and_then}
+use Rattle.hb_canonical.proofs.{EffectLemmas.goes-same, EffectLemmas.goes-passed, SourceLemmas.then-goes, LookLemmas.HasRoom, LookLemmas.looks}
+use Rattle.hb_canonical.specs.{Perform.perform, Same.IsSameButPlaces}
 use Rattle.hb_canonical.specs.Deeds.{Deed, bare, is_parenthesis, deepest, depth_after}
 use Rattle.hb_canonical.specs.Calm.{IsCalm, IsCalmBehind, begins, begins_one, is_open, is_other}
-use Rattle.hb_canonical.specs.Perform.{perform}
-use Rattle.hb_canonical.specs.Same.{IsSameButPlaces}
-use Rattle.hb_canonical.proofs.EffectLemmas.{goes-same, goes-passed}
-use Rattle.hb_canonical.proofs.SourceLemmas.{then-goes}
 use Rattle.hb_canonical.proofs.SeenLemmas.{nowhere, no_place, seen, seen-full, to_seen, to_depth}
-use Rattle.hb_canonical.proofs.LookLemmas.{HasRoom, looks}
 
 -- ── what is known of a work where an action went on ──
 

@@ -1,25 +1,22 @@
 -- The deeds of a text whose actions build something: without parentheses they are those of what is said, which fits in.
 use Rattle.std.proofs.Common.{◌≡◌, ℕ, zero, suc, ◌+◌, ◌≤◌, List, [], ◌∷◌, ◌++◌, true, false, Option, refl, sym, ◌∙◌, ap, subst, inl, inr, arith}
 use Rattle.std.specs.List.{AllByRecursion}
-use Rattle.hb_lex.specs.declared.kinds.TokenKind.{TokenKind}
-use Rattle.hb_lex.specs.declared.spans.Token.{Token}
+use Rattle.hb_lex.specs.declared.{kinds.TokenKind.TokenKind, spans.Token.Token}
 use Rattle.hb_types.specs.declared.types.Ty.TheVariants as ty
 use Rattle.hb_tree.specs.declared.limits.TheConstants.{CONSTRUCTS_MAX}
 use Rattle.hb_tree.specs.Tree.{Tree}
-use Rattle.hb_grammar.specs.declared.symbols.Sort.{Sort}
+use Rattle.hb_grammar.specs.declared.{symbols.Sort.Sort, symbols.Symbol.Symbol, symbols.Symbol.TheVariants.Token as T, symbols.Symbol.TheVariants.Phrase as N}
+use Rattle.hb_grammar.specs.declared.{symbols.Symbol.TheVariants.Action as A}
 use Rattle.hb_grammar.specs.declared.symbols.Sort.TheVariants as g
-use Rattle.hb_grammar.specs.declared.symbols.Symbol.{Symbol}
-use Rattle.hb_grammar.specs.declared.symbols.Symbol.TheVariants.{Token as T, Phrase as N, Action as A}
 use Rattle.hb_grammar.specs.Grammar.{alternatives}
 use Rattle.hb_grammar.specs.Language.{Act, act as act_at, IsOneOf, Translates, HasActions, kinds_of, program}
 use Rattle.hb_build.specs.Said.{Said}
 use Rattle.hb_build.specs.Acts.{Work, Answer, Goes, Fails, Lost, nothing}
 use Rattle.hb_build.specs.Follow.{follow, act_in, and_then, spot_of, bytes_in, last_of}
+use Rattle.hb_canonical.proofs.{EffectLemmas.goes-same, EffectLemmas.later-same, DepthLemmas.all-start}
 use Rattle.hb_canonical.specs.Deeds.{Deed, deeds_in, deeds_of, bare, deepest}
 use Rattle.hb_canonical.proofs.PlainLemmas.{plain_classes, plain_setup, plain_scripts, bare_all}
-use Rattle.hb_canonical.proofs.EffectLemmas.{goes-same, later-same}
 use Rattle.hb_canonical.proofs.PhraseLemmas.{ClassesMore, SetupFits, ScriptsFit, Way, way-append}
-use Rattle.hb_canonical.proofs.DepthLemmas.{all-start}
 use Rattle.hb_canonical.proofs.OperandLemmas as operand
 use Rattle.hb_canonical.proofs.BlockLemmas as block
 use Rattle.hb_canonical.proofs.MethodLemmas as method
@@ -51,8 +48,13 @@ module _ (w : Work) (ds : List Deed) (on : Work → List Deed → Type 0) where
   all-serve g.MoreTypes = (method.one_type w ds on, (method.no_type w ds on, tt))
   all-serve g.TypeWord = (
     method.class_type w ds on,
-    (method.word_type w ds on ty.Bool (λ s. refl), (method.word_type w ds on ty.Int (λ s. refl),
-        (method.word_type w ds on ty.Str (λ s. refl), (method.word_type w ds on ty.Any (λ s. refl), (method.word_type w ds on ty.Nil (λ s. refl), tt))))),
+    (
+      method.word_type w ds on ty.Bool (λ s. refl),
+      (
+        method.word_type w ds on ty.Int (λ s. refl),
+        (method.word_type w ds on ty.Str (λ s. refl), (method.word_type w ds on ty.Any (λ s. refl), (method.word_type w ds on ty.Nil (λ s. refl), tt))),
+      ),
+    ),
   )
   all-serve g.MoreComparison = (operand.less w ds on, (operand.equal w ds on, (operand.alone w ds on 2 0 (omega arith), tt)))
   all-serve g.Sum = (operand.sum w ds on, tt)

@@ -1,19 +1,15 @@
 -- Pieces that are tokens and do not join are the tokens of what they spell.
 use Rattle.std.proofs.Common.{◌≡◌, ◌⊎◌, ℕ, suc, ◌+◌, ◌-◌, List, [], ◌∷◌, ◌++◌, length, map, take, drop, Bool, true, false, Option, Some, None, Ok, refl, sym, ◌∙◌, ap, ap₂, subst, inl, inr, arith}
 use Rattle.std.specs.Prelude.{MatchBool, ◌&&◌, if◌then◌else◌}
-use Rattle.std.proofs.lemmas.Bool.{both_ways}
-use Rattle.std.proofs.lemmas.List.{drop-drop}
-use Rattle.std.proofs.Math.Seq.{take-append_seam, drop-append_seam}
-use Rattle.hb_lex.specs.declared.kinds.TokenKind.{TokenKind}
+use Rattle.std.proofs.{lemmas.Bool.both_ways, lemmas.List.drop-drop, Math.Seq.take-append_seam, Math.Seq.drop-append_seam}
+use Rattle.hb_lex.proofs.{Forms.empty_none}
+use Rattle.hb_lex.specs.declared.{kinds.TokenKind.TokenKind, spans.Token.Token}
 use Rattle.hb_lex.specs.declared.kinds.TokenKind.TheVariants as k
-use Rattle.hb_lex.specs.declared.spans.Token.{Token}
-use Rattle.hb_lex.specs.Bytes.{is_blank, is_hash, is_line_feed}
-use Rattle.hb_lex.specs.Tokens.{bytes_of, kind_of, excess}
-use Rattle.hb_lex.specs.Text.{Lexes, separates, token_at}
-use Rattle.hb_lex.proofs.Forms.{empty_none}
+use Rattle.hb_lex.specs.{Bytes.is_blank, Bytes.is_hash, Bytes.is_line_feed, Tokens.bytes_of, Tokens.kind_of, Tokens.excess, Text.Lexes, Text.separates, Text.token_at}
 use Rattle.hb_tree.specs.Pieces.{Piece, line_end, spell, spell_behind}
 use Rattle.hb_canonical.specs.Canonical.{HasPieces}
 use Rattle.hb_canonical.proofs.JoinLemmas.{stops, begins, next}
+use Rattle.hb_lex.proofs.{Runs.on_true, Runs.on_false, Standing.behind}
 
 -- the bytes of a piece are a token of its kind, and one that is not too large
 pub record IsToken (p : Piece) : Type 0 where
@@ -39,14 +35,6 @@ record Reads (whole : List ℕ) (at : ℕ) (before : Option TokenKind) (text : L
 
 -- ── one step ──
 
-on_true : (b : Bool) (P Q : Type 0) → b ≡ true → P → MatchBool b P Q
-on_true true P Q h p = p
-on_true false P Q h p = absurd (both_ways false refl h)
-
-on_false : (b : Bool) (P Q : Type 0) → b ≡ false → Q → MatchBool b P Q
-on_false false P Q h q = q
-on_false true P Q h q = absurd (both_ways true h refl)
-
 -- with a token in front
 with_token : (whole : List ℕ) (at n : ℕ) (before : Option TokenKind) (text rest : List ℕ) (p : Piece) (ps : List Piece) → text ≡ drop at whole → take n text ≡ p.bytes
     → (r : Reads whole (at + n) (Some p.kind) rest ps) → Lexes (suc r.steps) at before text (Ok (token_at p.kind at n ∷ r.tokens)) → Reads whole at before text (p ∷ ps)
@@ -60,9 +48,6 @@ with_token whole at n before text rest p ps e bytes r lexes =
       kinds = ap (λ xs. p.kind ∷ xs) r.kinds;
       bytes = ap₂ (λ x xs. x ∷ xs) here r.bytes;
     }
-
-behind : (whole : List ℕ) (at m : ℕ) (text : List ℕ) → text ≡ drop at whole → drop m text ≡ drop (at + m) whole
-behind whole at m text e = ap (drop m) e ∙ drop-drop m at whole
 
 -- a space in front
 with_space : (b : Bool) (whole : List ℕ) (at : ℕ) (before : Option TokenKind) (front rest : List ℕ) (ps : List Piece) → ((if b then 32 ∷ [] else []) ++ front) ++ rest ≡ drop at whole

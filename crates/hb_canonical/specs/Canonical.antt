@@ -1,8 +1,7 @@
 -- The tokens of a text, as pieces say them.
 use Rattle.std.specs.Prelude.{◌≡◌, ℕ, List, map}
+use Rattle.hb_lex.specs.{Text.HasTokens, Tokens.bytes_of}
 use Rattle.hb_lex.specs.declared.spans.Token.{Token}
-use Rattle.hb_lex.specs.Text.{HasTokens}
-use Rattle.hb_lex.specs.Tokens.{bytes_of}
 use Rattle.hb_tree.specs.Pieces.{Piece}
 
 -- the text's tokens have the kinds and the bytes of these pieces, one by one

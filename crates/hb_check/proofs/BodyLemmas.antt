@@ -2,41 +2,25 @@
 use Rattle.std.proofs.Common.{◌≡◌, ℕ, ◌≤◌, List, [], ◌∷◌, ◌++◌, map, Bool, true, false, refl, sym, ap, ◌∙◌, subst, append-nil}
 use Rattle.std.specs.Prelude.{Result, Ok, Err, Some, None, slice_get, nat_eq, if◌then◌else◌, ◌||◌}
 use Rattle.std.specs.Set.{distinct_count}
-use Rattle.hb_types.specs.declared.env.TheConstants.{VARIABLES_MAX}
-use Rattle.hb_types.specs.declared.types.Ty.{Ty}
-use Rattle.hb_types.specs.declared.types.MethodTy.{MethodTy}
-use Rattle.hb_types.specs.Types.{is_below, params_of as types_of}
-use Rattle.hb_types.specs.Variables.{Variables}
+use Rattle.hb_types.specs.{Types.is_below, Types.params_of as types_of, Variables.Variables}
+use Rattle.hb_types.specs.declared.{env.TheConstants.VARIABLES_MAX, types.Ty.Ty, types.MethodTy.MethodTy}
+use Rattle.hb_tree.specs.{Table.Table, Tree.id_of, Nodes.params_of, TreeAt.tree_at, Counts.names_assigned_in}
 use Rattle.hb_tree.specs.declared.parts.Body.{Body}
-use Rattle.hb_tree.specs.Table.{Table}
-use Rattle.hb_tree.specs.Tree.{id_of}
-use Rattle.hb_tree.specs.Nodes.{params_of}
-use Rattle.hb_tree.specs.TreeAt.{tree_at}
-use Rattle.hb_tree.specs.Counts.{names_assigned_in}
 use Rattle.hb_tree.proofs.Trees.{id_of-tree_at}
-use Rattle.hb_deriv.specs.declared.ill.Ill.{Ill}
-use Rattle.hb_deriv.specs.declared.ill.Reason.{Reason}
+use Rattle.hb_deriv.proofs.{KeyLemmas.key_itself, JudgementLemmas.body_judged, FaultLemmas.body_fails_from, GoodLemmas.derived_is_good}
+use Rattle.hb_deriv.specs.declared.{ill.Ill.Ill, ill.Reason.Reason, raw.Used.Used, raw.Derivation.Derivation}
 use Rattle.hb_deriv.specs.declared.ill.Reason.TheVariants as reason
-use Rattle.hb_deriv.specs.declared.raw.Used.{Used}
-use Rattle.hb_deriv.specs.declared.raw.Derivation.{Derivation}
 use Rattle.hb_deriv.specs.Judge.{Key, Types, Typed, Verdict, ◌>>=◌, Subject, variables_of, has_count, ended, ill_at, judge, judge_body}
 use Rattle.hb_deriv.specs.Events.{events, events_body, fresh, same_key, has, looks}
 use Rattle.hb_deriv.specs.Derivation.{AgreesWith, Derives, Sites, content_of, key_of, steps_of, type_at}
 use Rattle.hb_deriv.specs.Programs.{IsFor, sites_of, subject_of}
-use Rattle.hb_deriv.proofs.KeyLemmas.{key_itself}
-use Rattle.hb_deriv.proofs.JudgementLemmas.{body_judged}
-use Rattle.hb_deriv.proofs.FaultLemmas.{body_fails_from}
-use Rattle.hb_deriv.proofs.GoodLemmas.{derived_is_good}
+use Rattle.hb_check.proofs.{LookLemmas.key_turned, ParameterLemmas.body_room}
+use Rattle.hb_check.specs.{Checked.Checks, Checking.Answers}
 use Rattle.hb_check.specs.declared.bodies.Checked.TheVariants as checked
-use Rattle.hb_check.specs.declared.lookup.LookFail.{LookFail}
-use Rattle.hb_check.specs.declared.notes.Stop.{Stop}
+use Rattle.hb_check.specs.declared.{lookup.LookFail.LookFail, notes.Stop.Stop}
 use Rattle.hb_check.specs.declared.notes.Stop.TheVariants as stop
 use Rattle.hb_check.specs.Asked.{Asked, Declared, Agrees, answer_of, key_asked, types_in}
 use Rattle.hb_check.specs.Runs.{State, IsOnce, IsSound, Ran, keys_asked, names_of}
-use Rattle.hb_check.specs.Checked.{Checks}
-use Rattle.hb_check.specs.Checking.{Answers}
-use Rattle.hb_check.proofs.LookLemmas.{key_turned}
-use Rattle.hb_check.proofs.ParameterLemmas.{body_room}
 
 -- ── a type table that has the answers ──
 

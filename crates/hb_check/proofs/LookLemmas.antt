@@ -2,22 +2,15 @@
 use Rattle.std.proofs.Common.{◌≡◌, ℕ, ap₂, List, [], ◌∷◌, ◌++◌, map, Bool, true, false, refl, sym, ap, ◌∙◌, subst, append-nil}
 use Rattle.std.specs.Prelude.{Result, Ok, Err, Option, Some, None, if◌then◌else◌, ◌||◌, ◌&&◌}
 use Rattle.std.specs.Cmp.{nat_eq_equiv}
-use Rattle.hb_types.specs.declared.ids.ClassId.{ClassId}
-use Rattle.hb_types.specs.declared.ids.NameId.{NameId}
-use Rattle.hb_types.specs.declared.ids.NodeId.{NodeId}
-use Rattle.hb_types.specs.declared.ids.TypeSite.{TypeSite}
-use Rattle.hb_types.specs.declared.types.MethodTy.{MethodTy}
+use Rattle.hb_types.specs.declared.{ids.ClassId.ClassId, ids.NameId.NameId, ids.NodeId.NodeId, ids.TypeSite.TypeSite, types.MethodTy.MethodTy}
 use Rattle.hb_types.specs.Variables.{Variables}
 use Rattle.hb_deriv.specs.declared.ill.Reason.TheVariants as reason
-use Rattle.hb_deriv.specs.declared.raw.Used.{Used}
-use Rattle.hb_deriv.specs.declared.raw.Step.{Step}
-use Rattle.hb_deriv.specs.Judge.{Key, Types, Verdict}
+use Rattle.hb_deriv.specs.declared.{raw.Used.Used, raw.Step.Step}
+use Rattle.hb_deriv.specs.{Judge.Key, Judge.Types, Judge.Verdict, Derivation.Sites, Derivation.key_of, Derivation.type_at}
 use Rattle.hb_deriv.specs.Events.{Events, Look, same_key, has, fresh}
-use Rattle.hb_deriv.specs.Derivation.{Sites, key_of, type_at}
 use Rattle.hb_deriv.proofs.KeyLemmas.{key_same}
-use Rattle.hb_check.specs.declared.lookup.LookFail.{LookFail}
+use Rattle.hb_check.specs.declared.{lookup.LookFail.LookFail, notes.Stop.Stop}
 use Rattle.hb_check.specs.declared.lookup.LookFail.TheVariants as look
-use Rattle.hb_check.specs.declared.notes.Stop.{Stop}
 use Rattle.hb_check.specs.declared.notes.Stop.TheVariants as stop
 use Rattle.hb_check.specs.Asked.{Asked, Refusal, Declared, Agrees, asked, refusal, answer_of, key_asked}
 use Rattle.hb_check.specs.Looking.{IsVerdict, site_among, with_type}

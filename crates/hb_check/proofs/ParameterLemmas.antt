@@ -1,13 +1,9 @@
 -- The parameters of a body as the variables from which it is judged.
 use Rattle.std.proofs.Common.{◌≡◌, ℕ, zero, suc, ◌+◌, ◌<◌, ◌≤◌, List, [], ◌∷◌, ◌++◌, map, length, take, get_or, Bool, true, false, refl, sym, ap, ◌∙◌, subst, arith, add-one, eqb-true}
 use Rattle.std.specs.Prelude.{nat_eq, ◌||◌, if◌then◌else◌}
-use Rattle.std.specs.List.{AllByRecursion, IsDistinct}
-use Rattle.std.specs.Cmp.{nat_eq_equiv}
-use Rattle.std.specs.Set.{is_member, distinct_count}
+use Rattle.std.specs.{List.AllByRecursion, List.IsDistinct, Cmp.nat_eq_equiv, Set.is_member, Set.distinct_count}
 use Rattle.std.proofs.lemmas.Map.Made.{length-from_keys, length-le_from_is_member}
-use Rattle.hb_types.specs.declared.env.TheConstants.{VARIABLES_MAX}
-use Rattle.hb_types.specs.declared.ids.NameId.{NameId}
-use Rattle.hb_types.specs.declared.types.Ty.{Ty}
+use Rattle.hb_types.specs.declared.{env.TheConstants.VARIABLES_MAX, ids.NameId.NameId, types.Ty.Ty}
 use Rattle.hb_types.specs.Variables.{Variables, variable, has, set}
 use Rattle.hb_types.proofs.MapLemmas.{set_new}
 use Rattle.hb_deriv.specs.Judge.{parameters}

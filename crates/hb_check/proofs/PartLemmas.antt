@@ -2,32 +2,22 @@
 use Rattle.std.proofs.Common.{◌≡◌, ℕ, suc, ◌+◌, ◌<◌, ◌≤◌, get_or, drop, add-one, drop-cons, List, [], ◌∷◌, ◌++◌, length, Bool, true, false, refl, sym, ap, ◌∙◌, subst, append-nil, append_assoc, eqb-true, arith}
 use Rattle.std.proofs.Math.ListN.{drop_of_length-le}
 use Rattle.std.specs.Prelude.{Result, Ok, Err, Option, Some, None, nat_eq, if◌then◌else◌, ◌||◌}
-use Rattle.std.specs.Cmp.{nat_eq_equiv}
-use Rattle.std.specs.List.{AllByRecursion, IsDistinct}
-use Rattle.std.specs.Set.{is_member}
-use Rattle.hb_types.specs.declared.env.TheConstants.{VARIABLES_MAX}
-use Rattle.hb_types.specs.declared.ids.NodeId.{NodeId}
-use Rattle.hb_types.specs.declared.types.Ty.{Ty}
+use Rattle.std.specs.{Cmp.nat_eq_equiv, List.AllByRecursion, List.IsDistinct, Set.is_member}
+use Rattle.hb_types.specs.declared.{env.TheConstants.VARIABLES_MAX, ids.NodeId.NodeId, types.Ty.Ty, types.MethodTy.MethodTy, ids.TypeSite.TypeSite}
 use Rattle.hb_types.specs.declared.types.Ty.TheVariants as ty
-use Rattle.hb_types.specs.declared.types.MethodTy.{MethodTy}
-use Rattle.hb_types.specs.declared.ids.TypeSite.{TypeSite}
 use Rattle.hb_tree.specs.declared.node.Node.TheVariants as node
 use Rattle.hb_tree.specs.declared.node.Method.{Method}
 use Rattle.hb_tree.specs.declared.node.Method.TheVariants as method
-use Rattle.hb_tree.specs.Table.{Table}
-use Rattle.hb_tree.specs.Tree.{Tree, NoTree, Trees}
-use Rattle.hb_tree.specs.TreeAt.{forest_at, tree_of, tree_at}
+use Rattle.hb_tree.specs.{Table.Table, Tree.Tree, Tree.NoTree, Tree.Trees, TreeAt.forest_at, TreeAt.tree_of, TreeAt.tree_at}
 use Rattle.hb_types.specs.Variables.{Variables, IsMap, get, set, join, joined}
 use Rattle.hb_types.specs.Variables.{has as has_name}
 use Rattle.hb_deriv.specs.declared.ill.Reason.{Reason}
 use Rattle.hb_deriv.specs.Judge.{Types, Typed, Verdict, ◌>>=◌, keys_of, declaration_type, called, call_type}
 use Rattle.hb_deriv.specs.Events.{Events, behind, done, look_at}
 use Rattle.hb_deriv.specs.Derivation.{Sites}
+use Rattle.hb_check.specs.{Checked.Checks, Checked.ChecksMethod, Looking.method_of, Looking.with_type, Rules.concluded}
 use Rattle.hb_check.specs.declared.notes.Stop.{Stop}
 use Rattle.hb_check.specs.declared.notes.Stop.TheVariants as stop
-use Rattle.hb_check.specs.Checked.{Checks, ChecksMethod}
-use Rattle.hb_check.specs.Looking.{method_of, with_type}
-use Rattle.hb_check.specs.Rules.{concluded}
 use Rattle.hb_check.specs.Runs.{State, names_of, Within, HasRoom, IsSound, Runs}
 use Rattle.hb_check.proofs.RunLemmas.{within_itself, within_left, within_right, within_both, leaves_wider, runs_stop, runs_then, runs_from, runs_alike}
 
@@ -215,7 +205,7 @@ runs_grouped {sites = sites} {v} {es} A B C {G} {old} {new} {result} a = subst (
 -- a call's last part, as the method that is looked for and its rule
 pub call_parts : {sites : Sites} {A : List ℕ} {H : Variables} {old new : State} {result : Result Typed Stop} (id m : ℕ) (G : Variables) (t : Ty) (args : List Ty)
     → Runs sites (λ types. method_of types id m G t >>= (λ r. called id r.0 args (Some r.1)))
-        (λ types. look_at id (keys_of t m) ++ behind (method_of types id m G t) (λ r. done id (called id r.0 args (Some r.1)))) A H old new result
+    (λ types. look_at id (keys_of t m) ++ behind (method_of types id m G t) (λ r. done id (called id r.0 args (Some r.1)))) A H old new result
     → Runs sites (λ types. call_type types id m G t args) (λ types. look_at id (keys_of t m) ++ done id (call_type types id m G t args)) A H old new result
 call_parts id m G t args a = runs_alike
     (λ types. method_of types id m G t >>= (λ r. called id r.0 args (Some r.1))) (λ types. call_type types id m G t args)

@@ -2,13 +2,9 @@
 use Rattle.std.proofs.Common.{◌≡◌, ℕ, List, [], ◌∷◌, ◌++◌, map, Bool, true, false, refl, sym, ap, ◌∙◌, subst, append_assoc, append-nil}
 use Rattle.std.specs.Prelude.{Result, Ok, Err, Option, nat_eq, ◌||◌}
 use Rattle.std.specs.Set.{is_member}
-use Rattle.hb_types.specs.declared.ids.NodeId.{NodeId}
-use Rattle.hb_types.specs.declared.types.Ty.{Ty}
+use Rattle.hb_types.specs.declared.{ids.NodeId.NodeId, types.Ty.Ty}
 use Rattle.hb_types.specs.Variables.{Variables}
-use Rattle.hb_deriv.specs.declared.raw.Step.{Step}
-use Rattle.hb_deriv.specs.declared.raw.Used.{Used}
-use Rattle.hb_deriv.specs.declared.ill.Ill.{Ill}
-use Rattle.hb_deriv.specs.declared.ill.Reason.{Reason}
+use Rattle.hb_deriv.specs.declared.{raw.Step.Step, raw.Used.Used, ill.Ill.Ill, ill.Reason.Reason}
 use Rattle.hb_deriv.specs.Judge.{Key, Types, Typed, Verdict, ◌>>=◌}
 use Rattle.hb_deriv.specs.Events.{Events, Look, Done, behind, done, fresh}
 use Rattle.hb_deriv.specs.Derivation.{Sites, step, steps_of}

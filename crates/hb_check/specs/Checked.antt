@@ -2,12 +2,9 @@
 use Rattle.std.specs.Prelude.{ℕ, List, [], ◌∷◌, ◌++◌, Result, Ok}
 use Rattle.hb_types.specs.declared.types.Ty.{Ty}
 use Rattle.hb_types.specs.Variables.{Variables}
+use Rattle.hb_tree.specs.{Table.Table, Tree.Tree, Tree.Forest, TreeAt.tree_at, Counts.names_assigned_in, Counts.names_assigned_in_all}
 use Rattle.hb_tree.specs.declared.node.Method.{Method}
 use Rattle.hb_tree.specs.declared.node.Method.TheVariants as method
-use Rattle.hb_tree.specs.Table.{Table}
-use Rattle.hb_tree.specs.Tree.{Tree, Forest}
-use Rattle.hb_tree.specs.TreeAt.{tree_at}
-use Rattle.hb_tree.specs.Counts.{names_assigned_in, names_assigned_in_all}
 use Rattle.hb_deriv.specs.Judge.{Typed, ◌>>=◌, named, judge, judge_items, judge_args}
 use Rattle.hb_deriv.specs.Events.{Done, behind, done, events, events_items, events_args}
 use Rattle.hb_deriv.specs.Programs.{sites_of}
@@ -41,4 +38,4 @@ ChecksMethod t self id (method.Named c x) ty G old new result =
 ChecksMethod t self id (method.Computed c e) ty G old new result =
     let name = tree_at t e.0 in
     Runs (sites_of t) (λ types. judge types self name G >>= (λ r. named id r.0 r.1 ty))
-        (λ types. events types self name G ++ behind (judge types self name G) (λ r. done id (named id r.0 r.1 ty))) (names_assigned_in name) G old new result
+    (λ types. events types self name G ++ behind (judge types self name G) (λ r. done id (named id r.0 r.1 ty))) (names_assigned_in name) G old new result

@@ -1,16 +1,11 @@
 -- What a check of a body answers.
 use Rattle.std.specs.Prelude.{◌≡◌, ℕ, List, ◌++◌, map, Option, Some, None, Result, Ok, Err}
 use Rattle.hb_tree.specs.Table.{Table}
+use Rattle.hb_deriv.specs.{Judgement.IsJudged, Faults.BodyFails, Events.looks, Derivation.content_of}
 use Rattle.hb_deriv.specs.declared.raw.Derivation.{Derivation}
-use Rattle.hb_deriv.specs.Judge.{Key, Types, Subject}
-use Rattle.hb_deriv.specs.Judgement.{IsJudged}
-use Rattle.hb_deriv.specs.Faults.{BodyFails}
-use Rattle.hb_deriv.specs.Events.{looks}
-use Rattle.hb_deriv.specs.Derivation.{content_of}
-use Rattle.hb_deriv.specs.Programs.{IsFor, sites_of, subject_of}
-use Rattle.hb_check.specs.declared.bodies.Checked.{Checked}
+use Rattle.hb_deriv.specs.{Judge.Key, Judge.Types, Judge.Subject, Programs.IsFor, Programs.sites_of, Programs.subject_of}
+use Rattle.hb_check.specs.declared.{bodies.Checked.Checked, lookup.LookFail.LookFail}
 use Rattle.hb_check.specs.declared.bodies.Checked.TheVariants as checked
-use Rattle.hb_check.specs.declared.lookup.LookFail.{LookFail}
 use Rattle.hb_check.specs.Asked.{Asked, Refusal, Declared, Agrees, answer_of, types_in}
 use Rattle.hb_check.specs.Runs.{IsCause, IsOnce, keys_asked}
 

@@ -1,19 +1,12 @@
 -- What a check of a part comes to, in each type table that agrees with what the lookup answered.
 use Rattle.std.specs.Prelude.{◌≡◌, ℕ, ◌≤◌, List, [], ◌∷◌, ◌++◌, map, length, Option, Some, None, Result, Ok, Err, true, false, nat_eq}
-use Rattle.std.specs.List.{IsDistinct}
-use Rattle.std.specs.Set.{is_member}
-use Rattle.hb_types.specs.declared.types.Ty.{Ty}
-use Rattle.hb_types.specs.declared.env.TheConstants.{VARIABLES_MAX}
+use Rattle.std.specs.{List.IsDistinct, Set.is_member}
+use Rattle.hb_types.specs.declared.{types.Ty.Ty, env.TheConstants.VARIABLES_MAX}
 use Rattle.hb_types.specs.Variables.{Variables}
-use Rattle.hb_deriv.specs.declared.raw.Used.{Used}
-use Rattle.hb_deriv.specs.declared.raw.Step.{Step}
-use Rattle.hb_deriv.specs.Judge.{Key, Types, Verdict}
-use Rattle.hb_deriv.specs.Events.{Events, has, fresh}
-use Rattle.hb_deriv.specs.Derivation.{Sites, steps_of}
-use Rattle.hb_check.specs.declared.lookup.LookFail.{LookFail}
+use Rattle.hb_deriv.specs.declared.{raw.Used.Used, raw.Step.Step}
+use Rattle.hb_deriv.specs.{Judge.Key, Judge.Types, Judge.Verdict, Events.Events, Events.has, Events.fresh, Derivation.Sites, Derivation.steps_of}
+use Rattle.hb_check.specs.declared.{lookup.LookFail.LookFail, notes.Notes.Notes, notes.Stop.Stop}
 use Rattle.hb_check.specs.declared.lookup.LookFail.TheVariants as look
-use Rattle.hb_check.specs.declared.notes.Notes.{Notes}
-use Rattle.hb_check.specs.declared.notes.Stop.{Stop}
 use Rattle.hb_check.specs.declared.notes.Stop.TheVariants as stop
 use Rattle.hb_check.specs.Asked.{Asked, Refusal, Declared, Agrees, answer_of, key_asked, key_refused, types_in}
 

@@ -48,14 +48,6 @@ called_alike _ _ _ _ _ _ _ _ = itself _ _
 
 mutual
   pub alike : (t u : Types) (self : ℕ) (e : Tree) (G : Variables) → SameIn t u (events t self e G) → Alike (judge t self e G) (judge u self e G) (events t self e G) (events u self e G)
-  alike t u self (TNil id) G h = itself _ _
-  alike t u self (TTrue id) G h = itself _ _
-  alike t u self (TFalse id) G h = itself _ _
-  alike t u self (TSelf id) G h = itself _ _
-  alike t u self (TInt id n) G h = itself _ _
-  alike t u self (TText id x) G h = itself _ _
-  alike t u self (TVar id x) G h = itself _ _
-  alike t u self (TNew id c) G h = itself _ _
   alike t u self (TAssign id x e) G h = then_alike t u _ _ _ _ _ _ _ _ h (alike t u self e G) (λ r h. itself _ _)
   alike t u self (TPrint id e) G h = then_alike t u _ _ _ _ _ _ _ _ h (alike t u self e G) (λ r h. itself _ _)
   alike t u self (TToStr id e) G h = then_alike t u _ _ _ _ _ _ _ _ h (alike t u self e G) (λ r h. itself _ _)
@@ -68,11 +60,10 @@ mutual
       then_alike t u _ _ _ _ _ _ _ _ h (alike t u self c G) (λ r h. then_alike t u _ _ _ _ _ _ _ _ h (alike t u self b r.0) (λ q h. itself _ _))
   alike t u self (TCall id r m args) G h =
       then_alike t u _ _ _ _ _ _ _ _ h (alike t u self r G) (λ p h. then_alike t u _ _ _ _ _ _ _ _ h (alike_args t u self args p.0 []) (λ q h. called_alike t u id m q.0 p.1 q.1 h))
-  alike t u self (TDef id c m s b) G h = itself _ _
   alike t u self (TDefComputed id c e s b) G h = then_alike t u _ _ _ _ _ _ _ _ h (alike t u self e G) (λ r h. itself _ _)
-  alike t u self (TDeclare id c m s asks) G h = itself _ _
   alike t u self (TDeclareComputed id c e s asks) G h = then_alike t u _ _ _ _ _ _ _ _ h (alike t u self e G) (λ r h. itself _ _)
   alike t u self (TBlock id es) G h = alike_items t u self es G ty.Nil h
+  alike _ _ _ _ _ _ = itself _ _
 
   pub alike_items : (t u : Types) (self : ℕ) (es : Forest) (G : Variables) (r : Ty) → SameIn t u (events_items t self es G r)
       → Alike (judge_items t self es G r) (judge_items u self es G r) (events_items t self es G r) (events_items u self es G r)

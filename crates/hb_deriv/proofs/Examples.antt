@@ -1,17 +1,14 @@
 -- The judgement and the walk, tried on two bodies: `self.g`, and `x = if c then 1 else "a" end; x + 1`.
 use Rattle.std.proofs.Common.{◌≡◌, ℕ, List, [], ◌∷◌, replicate, refl}
 use Rattle.std.specs.Prelude.{Some, None, Ok, Err, pos, nat_eq, if◌then◌else◌}
-use Rattle.hb_types.specs.declared.types.Ty.{Ty}
+use Rattle.hb_types.specs.declared.{types.Ty.Ty, types.MethodTy.MethodTy}
 use Rattle.hb_types.specs.declared.types.Ty.TheVariants as ty
-use Rattle.hb_types.specs.declared.types.MethodTy.{MethodTy}
 use Rattle.hb_tree.specs.declared.node.Op.TheVariants as op
 use Rattle.hb_tree.specs.Tree.{TSelf, TInt, TText, TVar, TAssign, TBinary, TIf, TCall, TBlock, NoTree, Trees}
 use Rattle.hb_deriv.specs.declared.ill.Reason.TheVariants as reason
-use Rattle.hb_deriv.specs.declared.raw.Used.{Used}
-use Rattle.hb_deriv.specs.declared.raw.Step.{Step}
+use Rattle.hb_deriv.specs.declared.{raw.Used.Used, raw.Step.Step}
 use Rattle.hb_deriv.specs.Judge.{Subject, ◌>>=◌, ill_at, object, judge_body}
-use Rattle.hb_deriv.specs.Events.{behind, looks}
-use Rattle.hb_deriv.specs.Derivation.{Content, Sites, step}
+use Rattle.hb_deriv.specs.{Events.behind, Events.looks, Derivation.Content, Derivation.Sites, Derivation.step}
 use Rattle.hb_deriv.specs.Walk.{AtUses, AtStep, ◌>>>◌, walk_body}
 
 abbrev gives : Ty → MethodTy

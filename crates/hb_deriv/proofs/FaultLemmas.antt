@@ -1,14 +1,10 @@
 -- The faults that are computed are those of the relation.
 use Rattle.std.proofs.Common.{◌≡◌, ◌⊎◌, ℕ, List, [], ◌∷◌, ◌++◌, length, Option, Some, None, Bool, true, false, refl, ap, subst, nat_eq, eq-eqb, inl, inr, ⊎_elim}
-use Rattle.std.proofs.lemmas.Bool.{eqb-true}
-use Rattle.std.proofs.lemmas.Bool.Decides.{eqb_tells}
+use Rattle.std.proofs.{lemmas.Bool.eqb-true, lemmas.Bool.Decides.eqb_tells}
 use Rattle.std.specs.Prelude.{Ok, Err, ◌&&◌, if◌then◌else◌}
-use Rattle.hb_types.specs.declared.types.Ty.{Ty}
+use Rattle.hb_types.specs.declared.{types.Ty.Ty, ids.ClassId.ClassId, types.MethodTy.MethodTy}
 use Rattle.hb_types.specs.declared.types.Ty.TheVariants as ty
-use Rattle.hb_types.specs.declared.ids.ClassId.{ClassId}
-use Rattle.hb_types.specs.declared.types.MethodTy.{MethodTy}
-use Rattle.hb_types.specs.Types.{is_below, params_of}
-use Rattle.hb_types.specs.Variables.{Variables, get, keeps}
+use Rattle.hb_types.specs.{Types.is_below, Types.params_of, Variables.Variables, Variables.get, Variables.keeps}
 use Rattle.hb_tree.specs.Tree.{Tree, TNil, TTrue, TFalse, TSelf, TInt, TText, TVar, TNew, TAssign, TPrint, TToStr, TNot, TBinary, TIf, TWhile, TCall, TDef, TDefComputed}
 use Rattle.hb_tree.specs.Tree.{TDeclare, TDeclareComputed, TBlock, Forest, NoTree, Trees, id_of}
 use Rattle.hb_deriv.specs.declared.ill.Ill.{Ill}
@@ -109,22 +105,11 @@ called_fails types self id m c G r args G1 G2 ts f (Some s) is j k h = go (nat_e
 call_fails : (types : Types) (self id m : ℕ) (G : Variables) (r : Tree) (args : Forest) (G1 : Variables) (p : Ty) (G2 : Variables) (ts : List Ty) (f : Ill) → Judged types self G r G1 p
     → JudgedArgs types self G1 args [] G2 ts → call_type types id m G2 p ts ≡ Err f → Fails types self G (TCall id r m args) f
 call_fails types self id m G r args G1 (ty.Class c) G2 ts f j k h = called_fails types self id m c G r args G1 G2 ts f (types (c.0, m)) refl j k h
-call_fails types self id m G r args G1 ty.Nil G2 ts f j k h = let same : ill_at id reason.Receiver ≡ f = cc in as_told types self G (TCall id r m args) _ f same (FailsNoClass j k tt)
-call_fails types self id m G r args G1 ty.Bool G2 ts f j k h = let same : ill_at id reason.Receiver ≡ f = cc in as_told types self G (TCall id r m args) _ f same (FailsNoClass j k tt)
-call_fails types self id m G r args G1 ty.Int G2 ts f j k h = let same : ill_at id reason.Receiver ≡ f = cc in as_told types self G (TCall id r m args) _ f same (FailsNoClass j k tt)
-call_fails types self id m G r args G1 ty.Str G2 ts f j k h = let same : ill_at id reason.Receiver ≡ f = cc in as_told types self G (TCall id r m args) _ f same (FailsNoClass j k tt)
-call_fails types self id m G r args G1 ty.Any G2 ts f j k h = let same : ill_at id reason.Receiver ≡ f = cc in as_told types self G (TCall id r m args) _ f same (FailsNoClass j k tt)
+call_fails types self id m G r args G1 _ G2 ts f j k h = let same : ill_at id reason.Receiver ≡ f = cc in as_told types self G (TCall id r m args) _ f same (FailsNoClass j k tt)
 
 mutual
   pub fails_from : (types : Types) (self : ℕ) (e : Tree) (G : Variables) (f : Ill) → judge types self e G ≡ Err f → Fails types self G e f
-  fails_from types self (TNil id) G f h = absurd (cc)
-  fails_from types self (TTrue id) G f h = absurd (cc)
-  fails_from types self (TFalse id) G f h = absurd (cc)
-  fails_from types self (TSelf id) G f h = absurd (cc)
-  fails_from types self (TInt id n) G f h = absurd (cc)
-  fails_from types self (TText id x) G f h = absurd (cc)
   fails_from types self (TVar id x) G f h = let v = variable_err id G (get G x) f h in as_told types self G (TVar id x) _ f v.1 (FailsVar v.0)
-  fails_from types self (TNew id c) G f h = absurd (cc)
   fails_from types self (TAssign id x e) G f h = FailsAssign (fails_from types self e G f (part_err (judge types self e G) _ f h))
   fails_from types self (TPrint id e) G f h = FailsPrint (fails_from types self e G f (part_err (judge types self e G) _ f h))
   fails_from types self (TToStr id e) G f h = FailsToStr (fails_from types self e G f (part_err (judge types self e G) _ f h))
@@ -155,19 +140,18 @@ mutual
       (λ q. call_fails types self id m G r args p.0.0 p.0.1 q.0.0 q.0.1 f (judged_of types self r G p.0 p.1) (judged_args types self args p.0.0 [] q.0 q.1) q.2)
       (bind_err (judge_args types self args p.0.0 []) _ f p.2))
       (bind_err (judge types self r G) _ f h)
-  fails_from types self (TDef id c m s b) G f h = absurd (cc)
   fails_from types self (TDefComputed id c e s b) G f h =
       ⊎_elim (λ p. FailsDefName (fails_from types self e G f p))
       (λ p. let g = guard_err (is_below p.0.1 ty.Str) _ _ f p.2 in
       as_told types self G (TDefComputed id c e s b) _ f g.1 (FailsDefText (judged_of types self e G p.0 p.1) g.0))
       (bind_err (judge types self e G) _ f h)
-  fails_from types self (TDeclare id c m s asks) G f h = absurd (cc)
   fails_from types self (TDeclareComputed id c e s asks) G f h =
       ⊎_elim (λ p. FailsDeclareName (fails_from types self e G f p))
       (λ p. let g = guard_err (is_below p.0.1 ty.Str) _ _ f p.2 in
       as_told types self G (TDeclareComputed id c e s asks) _ f g.1 (FailsDeclareText (judged_of types self e G p.0 p.1) g.0))
       (bind_err (judge types self e G) _ f h)
   fails_from types self (TBlock id es) G f h = FailsBlock (items_fail_from types self es G ty.Nil f h)
+  fails_from types self _ G f h = absurd (cc)
 
   items_fail_from : (types : Types) (self : ℕ) (es : Forest) (G : Variables) (t : Ty) (f : Ill) → judge_items types self es G t ≡ Err f → ItemsFail types self G es t f
   items_fail_from types self NoTree G t f h = absurd (cc)

@@ -2,18 +2,14 @@
 use Rattle.std.proofs.Common.{◌≡◌, List, [], ◌∷◌, ◌++◌, map, length, Bool, true, false, refl, sym, ap, ◌∙◌, subst, eq-eqb, append-nil}
 use Rattle.std.proofs.lemmas.Bool.{eqb-true}
 use Rattle.std.specs.Prelude.{Ok, Err, if◌then◌else◌}
+use Rattle.hb_types.specs.{Types.is_below, Variables.Variables}
 use Rattle.hb_types.specs.declared.types.Ty.{Ty}
-use Rattle.hb_types.specs.Types.{is_below}
-use Rattle.hb_types.specs.Variables.{Variables}
-use Rattle.hb_deriv.specs.declared.raw.Used.{Used}
-use Rattle.hb_deriv.specs.declared.raw.Step.{Step}
+use Rattle.hb_deriv.proofs.{JudgementLemmas.judge_of, JudgementLemmas.judged_of, AlongLemmas.answer, AlongLemmas.along, AlikeLemmas.alike}
+use Rattle.hb_deriv.specs.declared.{raw.Used.Used, raw.Step.Step}
 use Rattle.hb_deriv.specs.Judge.{Key, Types, Typed, Verdict, judge, Subject, variables_of, has_count}
 use Rattle.hb_deriv.specs.Events.{Events, events, events_body, fresh}
 use Rattle.hb_deriv.specs.Derivation.{Content, Sites, key_of, table, steps_of, AgreesWith, Derives}
 use Rattle.hb_deriv.specs.Walk.{State, AtStep, ◌>>>◌, walk, no_use, at_end, start, walk_body, IsGood}
-use Rattle.hb_deriv.proofs.JudgementLemmas.{judge_of, judged_of}
-use Rattle.hb_deriv.proofs.AlongLemmas.{answer, along}
-use Rattle.hb_deriv.proofs.AlikeLemmas.{alike}
 use Rattle.hb_deriv.proofs.KeyLemmas.{AllHave, fresh_has, same_in, same_back}
 use Rattle.hb_deriv.proofs.WalkLemmas.{replay, then_ok, then_of, walked_same, Passed, passed_by, passes}
 
@@ -86,7 +82,7 @@ derived_is_good sites s d types h p =
     let w = passes (events_in types s) [] d.uses 0 uses in
     let r : replay (start d) (events_in (table sites d.uses) s) ≡ Ok w.last =
     ap (λ (es : Events). replay (start d) es) (sym q.events)
-        ∙ ap (λ (ps : List Step). replay (let z : State = record { taken = []; left = d.uses; steps = ps; passed = 0 } in z) (events_in types s)) (p.steps ∙ ap steps_of es) ∙ w.by in
+    ∙ ap (λ (ps : List Step). replay (let z : State = record { taken = []; left = d.uses; steps = ps; passed = 0 } in z) (events_in types s)) (p.steps ∙ ap steps_of es) ∙ w.by in
     let t : walk sites s.self s.block (variables_of s) (start d) ≡ Ok (w.last, (p.judged.behind, p.judged.ty)) =
     (along sites d.uses s.self s.block (variables_of s)).by (start d) refl ∙ then_of _ _ w.last (w.last, (p.judged.behind, p.judged.ty)) r (ap (λ v. answer v w.last) (sym q.verdict ∙ judge_of p.judged.judged)) in
     record { last = w.last; ends = ends_of sites s d w.last p.judged.behind p.judged.ty n t w.no_step p.judged.below w.no_use }

@@ -2,10 +2,8 @@
 use Rattle.std.proofs.Common.{◌≡◌, ℕ, List, [], ◌∷◌, ◌++◌, length, Option, Some, None, Bool, true, false, refl, ap, subst, nat_eq, eq-eqb}
 use Rattle.std.proofs.lemmas.Bool.{eqb-true}
 use Rattle.std.specs.Prelude.{Ok, Err, ◌&&◌, if◌then◌else◌}
-use Rattle.hb_types.specs.declared.types.Ty.{Ty}
+use Rattle.hb_types.specs.declared.{types.Ty.Ty, ids.ClassId.ClassId, types.MethodTy.MethodTy}
 use Rattle.hb_types.specs.declared.types.Ty.TheVariants as ty
-use Rattle.hb_types.specs.declared.ids.ClassId.{ClassId}
-use Rattle.hb_types.specs.declared.types.MethodTy.{MethodTy}
 use Rattle.hb_types.specs.Types.{is_below, join_of, params_of}
 use Rattle.hb_types.specs.Variables.{Variables, get, join, keeps}
 use Rattle.hb_tree.specs.Tree.{Tree, TNil, TTrue, TFalse, TSelf, TInt, TText, TVar, TNew, TAssign, TPrint, TToStr, TNot, TBinary, TIf, TWhile, TCall, TDef, TDefComputed}
@@ -17,20 +15,14 @@ use Rattle.hb_deriv.specs.Judge.{judge_args, Subject, variables_of, has_count, e
 use Rattle.hb_deriv.specs.Judgement.{Judged, JudgedItems, JudgedArgs, JudgedNil, JudgedTrue, JudgedFalse, JudgedSelf, JudgedInt, JudgedText, JudgedVar, JudgedNew, JudgedAssign}
 use Rattle.hb_deriv.specs.Judgement.{JudgedPrint, JudgedToStr, JudgedNot, JudgedBinary, JudgedIf, JudgedWhile, JudgedCall, JudgedDef, JudgedDefComputed, JudgedDeclare}
 use Rattle.hb_deriv.specs.Judgement.{JudgedDeclareComputed, JudgedBlock, JudgedNoItem, JudgedItem, JudgedNoArg, JudgedArg, IsJudged}
+pub use Rattle.hb_types.proofs.MapLemmas.{both_true as and_both}
 
 -- complete: what the relation has is computed
 mutual
   unfolding ◌>>=◌
 
   pub judge_of : {types : Types} {self : ℕ} {G G2 : Variables} {e : Tree} {t : Ty} → Judged types self G e G2 t → judge types self e G ≡ Ok (G2, t)
-  judge_of JudgedNil = refl
-  judge_of JudgedTrue = refl
-  judge_of JudgedFalse = refl
-  judge_of JudgedSelf = refl
-  judge_of JudgedInt = refl
-  judge_of JudgedText = refl
   judge_of (JudgedVar {G = G} {id = id} h) = ap (variable_type id G) h
-  judge_of JudgedNew = refl
   judge_of (JudgedAssign h) = rw (judge_of h) refl
   judge_of (JudgedPrint h) = rw (judge_of h) refl
   judge_of (JudgedToStr h) = rw (judge_of h) refl
@@ -39,11 +31,10 @@ mutual
   judge_of (JudgedIf h k l) = rw (judge_of h, judge_of k, judge_of l) refl
   judge_of (JudgedWhile h k p) = rw (judge_of h, judge_of k, p) refl
   judge_of (JudgedCall {ts = ts} {s = s} h k p n q) = rw (judge_of h, args_of k, p, eq-eqb (length ts) s.count n, q) refl
-  judge_of JudgedDef = refl
   judge_of (JudgedDefComputed h p) = rw (judge_of h, p) refl
-  judge_of JudgedDeclare = refl
   judge_of (JudgedDeclareComputed h p) = rw (judge_of h, p) refl
   judge_of (JudgedBlock h) = items_of h
+  judge_of _ = refl
 
   items_of : {types : Types} {self : ℕ} {G G2 : Variables} {es : Forest} {r t : Ty} → JudgedItems types self G es r G2 t → judge_items types self es G r ≡ Ok (G2, t)
   items_of JudgedNoItem = refl
@@ -66,11 +57,6 @@ ok_same x y h = cc
 pub guard_ok : {A : Type 0} (b : Bool) (x y : A) (f : Ill) → (let r : Verdict A = Err f in if b then Ok x else r) ≡ Ok y → (b ≡ true) × (x ≡ y)
 guard_ok true x y f h = (refl, cc)
 guard_ok false x y f h = absurd (cc)
-
-pub and_both : (a b : Bool) → (a && b) ≡ true → (a ≡ true) × (b ≡ true)
-and_both true true h = (refl, refl)
-and_both true false h = absurd (cc)
-and_both false b h = absurd (cc)
 
 variable_ok : (id : ℕ) (G : Variables) (o : Option Ty) (y : Typed) → variable_type id G o ≡ Ok y → (t : Ty) × (o ≡ Some t) × ((G, t) ≡ y)
 variable_ok id G None y h = absurd (cc)
@@ -127,7 +113,7 @@ mutual
       let l = bind_ok (judge types self a t.0.0) _ y t.2 in
       let r = bind_ok (judge types self b t.0.0) _ y l.2 in
       as_said types self G (TIf id c a b) (join l.0.0 r.0.0, join_of l.0.1 r.0.1) y (ok_same _ y r.2)
-          (JudgedIf (judged_of types self c G t.0 t.1) (judged_of types self a t.0.0 l.0 l.1) (judged_of types self b t.0.0 r.0 r.1))
+      (JudgedIf (judged_of types self c G t.0 t.1) (judged_of types self a t.0.0 l.0 l.1) (judged_of types self b t.0.0 r.0 r.1))
   judged_of types self (TWhile id c b) G y h =
       let t = bind_ok (judge types self c G) _ y h in
       let r = bind_ok (judge types self b t.0.0) _ y t.2 in

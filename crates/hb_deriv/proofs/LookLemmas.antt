@@ -1,16 +1,12 @@
 -- The looks without repeats: what they settle, and how far they agree.
 use Rattle.std.proofs.Common.{◌≡◌, ℕ, List, [], ◌∷◌, ◌++◌, Bool, true, false, refl, sym, ap, ◌∙◌, subst, append_assoc, append-nil}
 use Rattle.std.specs.Prelude.{◌||◌, if◌then◌else◌}
+use Rattle.hb_deriv.proofs.{JudgementLemmas.body_judged, JudgementLemmas.judge_body_of, FaultLemmas.body_fails_of, FaultLemmas.body_fails_from, AlikeLemmas.Alike}
+use Rattle.hb_deriv.proofs.{AlikeLemmas.alike_body, OnwardLemmas.onward_body, KeyLemmas.key_same}
+use Rattle.hb_deriv.specs.{Judgement.IsJudged, Faults.BodyFails}
 use Rattle.hb_deriv.specs.declared.ill.Ill.{Ill}
 use Rattle.hb_deriv.specs.Judge.{Key, Types, Subject, judge_body}
-use Rattle.hb_deriv.specs.Judgement.{IsJudged}
-use Rattle.hb_deriv.specs.Faults.{BodyFails}
 use Rattle.hb_deriv.specs.Events.{Events, Look, Done, events_body, same_key, has, fresh, looks, SameAt, SameIn}
-use Rattle.hb_deriv.proofs.JudgementLemmas.{body_judged, judge_body_of}
-use Rattle.hb_deriv.proofs.FaultLemmas.{body_fails_of, body_fails_from}
-use Rattle.hb_deriv.proofs.AlikeLemmas.{Alike, alike_body}
-use Rattle.hb_deriv.proofs.OnwardLemmas.{onward_body}
-use Rattle.hb_deriv.proofs.KeyLemmas.{key_same}
 
 -- at a key that is one of those at which they agree
 same_at : (t u : Types) (ks : List Key) (k : Key) → SameAt t u ks → has k ks ≡ true → t k ≡ u k
@@ -47,7 +43,7 @@ record Place (seen : List Key) (es : Events) (ks : List Key) (k : Key) : Type 0 
   before : fresh seen front ≡ ks
   new : has k (seen ++ ks) ≡ false
 
-head_key : (j k : Key) (js ks : List Key) → j ∷ js ≡ k ∷ ks → (j ≡ k) × (js ≡ ks)
+pub head_key : (j k : Key) (js ks : List Key) → j ∷ js ≡ k ∷ ks → (j ≡ k) × (js ≡ ks)
 head_key j k js ks h = (cc, cc)
 
 nothing : (ks : List Key) (k : Key) (rest : List Key) → [] ≡ ks ++ k ∷ rest → ⊥
@@ -68,8 +64,14 @@ place_of seen (Look id j ∷ es) ks k rest h = go (has j seen) refl ks h (λ see
         record { front = Look id j ∷ p.front; id = p.id; rest = p.rest; is = ap (λ (l : Events). Look id j ∷ l) p.is; before = rw e p.before; new = p.new }
     go false e [] h later =
         let q = head_key j k (fresh (seen ++ j ∷ []) es) rest h in
-        record { front = []; id = id; rest = es; is = ap (λ (i : Key). Look id i ∷ es) q.0; before = refl;
-            new = subst (λ (l : List Key). has k l ≡ false) (sym (append-nil seen)) (subst (λ (i : Key). has i seen ≡ false) q.0 e) }
+        record {
+          front = [];
+          id = id;
+          rest = es;
+          is = ap (λ (i : Key). Look id i ∷ es) q.0;
+          before = refl;
+          new = subst (λ (l : List Key). has k l ≡ false) (sym (append-nil seen)) (subst (λ (i : Key). has i seen ≡ false) q.0 e);
+        }
     go false e (i ∷ ks) h later =
         let q = head_key j i (fresh (seen ++ j ∷ []) es) (ks ++ k ∷ rest) h in
         let p = later (seen ++ j ∷ []) ks q.1 in

@@ -69,14 +69,6 @@ onward_call t u _ _ _ _ _ = onward_same t u _
 
 mutual
   pub onward : (t u : Types) (self : ℕ) (e : Tree) (G : Variables) → Onward t u (events t self e G) (events u self e G)
-  onward t u self (TNil id) G = onward_same t u _
-  onward t u self (TTrue id) G = onward_same t u _
-  onward t u self (TFalse id) G = onward_same t u _
-  onward t u self (TSelf id) G = onward_same t u _
-  onward t u self (TInt id n) G = onward_same t u _
-  onward t u self (TText id x) G = onward_same t u _
-  onward t u self (TVar id x) G = onward_same t u _
-  onward t u self (TNew id c) G = onward_same t u _
   onward t u self (TAssign id x e) G = onward_then t u _ _ _ _ _ _ (onward t u self e G) (alike t u self e G) (λ r. onward_same t u _)
   onward t u self (TPrint id e) G = onward_then t u _ _ _ _ _ _ (onward t u self e G) (alike t u self e G) (λ r. onward_same t u _)
   onward t u self (TToStr id e) G = onward_then t u _ _ _ _ _ _ (onward t u self e G) (alike t u self e G) (λ r. onward_same t u _)
@@ -87,11 +79,10 @@ mutual
   onward t u self (TWhile id c b) G = onward_then t u _ _ _ _ _ _ (onward t u self c G) (alike t u self c G) (λ r. onward_then t u _ _ _ _ _ _ (onward t u self b r.0) (alike t u self b r.0) (λ q. onward_same t u _))
   onward t u self (TCall id r m args) G = onward_then t u _ _ _ _ _ _ (onward t u self r G) (alike t u self r G)
       (λ p. onward_then t u _ _ _ _ _ _ (onward_args t u self args p.0 []) (alike_args t u self args p.0 []) (λ q. onward_call t u id m q.0 p.1 q.1))
-  onward t u self (TDef id c m s b) G = onward_same t u _
   onward t u self (TDefComputed id c e s b) G = onward_then t u _ _ _ _ _ _ (onward t u self e G) (alike t u self e G) (λ r. onward_same t u _)
-  onward t u self (TDeclare id c m s asks) G = onward_same t u _
   onward t u self (TDeclareComputed id c e s asks) G = onward_then t u _ _ _ _ _ _ (onward t u self e G) (alike t u self e G) (λ r. onward_same t u _)
   onward t u self (TBlock id es) G = onward_items t u self es G ty.Nil
+  onward t u _ _ _ = onward_same t u _
 
   onward_items : (t u : Types) (self : ℕ) (es : Forest) (G : Variables) (r : Ty) → Onward t u (events_items t self es G r) (events_items u self es G r)
   onward_items t u self NoTree G r = onward_same t u []

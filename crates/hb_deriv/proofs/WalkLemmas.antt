@@ -1,19 +1,17 @@
 -- Events against a state: what a walk without a fault has passed, and where there is none.
 use Rattle.std.proofs.Common.{◌≡◌, ℕ, suc, List, [], ◌∷◌, ◌++◌, map, Bool, true, false, refl, sym, ap, ◌∙◌, subst, nat_eq, eq-eqb, append_assoc, append-nil}
-use Rattle.std.proofs.lemmas.Bool.{eqb-true}
-use Rattle.std.proofs.lemmas.List.{map-append}
+use Rattle.std.proofs.{lemmas.Bool.eqb-true, lemmas.List.map-append}
 use Rattle.std.specs.Prelude.{Ok, Err, ◌&&◌, if◌then◌else◌}
 use Rattle.hb_types.specs.declared.types.Ty.{Ty}
 use Rattle.hb_types.specs.Types.{same_ty}
 use Rattle.hb_types.proofs.Below.{same_ty_is, same_ty_itself}
-use Rattle.hb_deriv.specs.declared.raw.Used.{Used}
-use Rattle.hb_deriv.specs.declared.raw.Step.{Step}
-use Rattle.hb_deriv.specs.Judge.{Key}
+use Rattle.hb_deriv.proofs.{JudgementLemmas.and_both}
+use Rattle.hb_deriv.specs.declared.{raw.Used.Used, raw.Step.Step}
+use Rattle.hb_deriv.specs.{Judge.Key, Derivation.key_of, Derivation.step, Derivation.steps_of}
 use Rattle.hb_deriv.specs.Events.{Events, Look, Done, same_key, has, fresh}
-use Rattle.hb_deriv.specs.Derivation.{key_of, step, steps_of}
 use Rattle.hb_deriv.specs.Walk.{State, WalkFault, Walked, ◌>>>◌, take_next, look, pass_next, pass}
-use Rattle.hb_deriv.proofs.JudgementLemmas.{and_both}
 use Rattle.hb_deriv.proofs.KeyLemmas.{key_same, key_itself, has_front, has_mid, AllHave}
+use Rattle.hb_deriv.proofs.LookLemmas.{head_key as key_parts}
 
 -- the events one after another, from a state
 abbrev pub replay : State → Events → Walked State
@@ -96,7 +94,7 @@ passed_by s (Look id k ∷ es) z h =
             let p = subst (λ (y : State). Passed y es z) (sym q.4) p0 in
             let whole : z.taken ≡ s.taken ++ u ∷ p.used = p.taken ∙ append_assoc s.taken (u ∷ []) p.used in
             let names : map key_of z.taken ≡ map key_of s.taken ++ k ∷ map key_of p.used = ap (map key_of) whole ∙ map-append key_of s.taken (u ∷ p.used)
-                 ∙ ap (λ (j : Key). map key_of s.taken ++ j ∷ map key_of p.used) q.3 in
+            ∙ ap (λ (j : Key). map key_of s.taken ++ j ∷ map key_of p.used) q.3 in
             let seen : map key_of (s.taken ++ u ∷ []) ≡ map key_of s.taken ++ k ∷ [] = map-append key_of s.taken (u ∷ []) ∙ ap (λ (j : Key). map key_of s.taken ++ j ∷ []) q.3 in
             record {
               used = u ∷ p.used;
@@ -120,9 +118,6 @@ state_at taken us steps n = record { taken = taken; left = us; steps = steps; pa
 no_keys : (us : List Used) → map key_of us ≡ [] → us ≡ []
 no_keys [] h = refl
 no_keys (u ∷ us) h = absurd (cc)
-
-key_parts : (j k : Key) (js ks : List Key) → j ∷ js ≡ k ∷ ks → (j ≡ k) × (js ≡ ks)
-key_parts j k js ks h = (cc, cc)
 
 pub passes : (es : Events) (taken us : List Used) (n : ℕ) → map key_of us ≡ fresh (map key_of taken) es → Passes (state_at taken us (steps_of es) n) es
 passes [] taken us n h = record { last = state_at taken us [] n; by = refl; no_use = no_keys us h; no_step = refl }

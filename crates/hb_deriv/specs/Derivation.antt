@@ -1,13 +1,8 @@
 -- What a derivation says, and what it is to derive a body.
 use Rattle.std.specs.Prelude.{◌≡◌, ℕ, List, [], ◌∷◌, map, Option, Some, None, if◌then◌else◌}
-use Rattle.hb_types.specs.declared.types.Ty.{Ty}
-use Rattle.hb_types.specs.declared.types.MethodTy.{MethodTy}
-use Rattle.hb_deriv.specs.declared.raw.Used.{Used}
-use Rattle.hb_deriv.specs.declared.raw.Step.{Step}
-use Rattle.hb_deriv.specs.declared.raw.RawDerivation.{RawDerivation}
-use Rattle.hb_deriv.specs.declared.raw.Derivation.{Derivation}
-use Rattle.hb_deriv.specs.Judge.{Key, Types, Subject}
-use Rattle.hb_deriv.specs.Judgement.{IsJudged}
+use Rattle.hb_types.specs.declared.{types.Ty.Ty, types.MethodTy.MethodTy}
+use Rattle.hb_deriv.specs.declared.{raw.Used.Used, raw.Step.Step, raw.RawDerivation.RawDerivation, raw.Derivation.Derivation}
+use Rattle.hb_deriv.specs.{Judge.Key, Judge.Types, Judge.Subject, Judgement.IsJudged}
 use Rattle.hb_deriv.specs.Events.{Events, Look, Done, events_body, same_key, looks}
 
 -- the class of self, the sites of the body and of its declared type, the uses and the steps

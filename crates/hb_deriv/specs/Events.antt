@@ -1,9 +1,8 @@
 -- What the judgement does, in order: the keys at which it looks, and the expressions that it finishes.
 use Rattle.std.specs.Prelude.{◌≡◌, ℕ, List, [], ◌∷◌, ◌++◌, map, Ok, Err, Bool, false, nat_eq, ◌&&◌, ◌||◌, if◌then◌else◌}
+use Rattle.hb_types.specs.{Types.join_of, Variables.Variables, Variables.get}
 use Rattle.hb_types.specs.declared.types.Ty.{Ty}
 use Rattle.hb_types.specs.declared.types.Ty.TheVariants as ty
-use Rattle.hb_types.specs.Types.{join_of}
-use Rattle.hb_types.specs.Variables.{Variables, get}
 use Rattle.hb_tree.specs.Tree.{Tree, TNil, TTrue, TFalse, TSelf, TInt, TText, TVar, TNew, TAssign, TPrint, TToStr, TNot, TBinary, TIf, TWhile, TCall, TDef, TDefComputed}
 use Rattle.hb_tree.specs.Tree.{TDeclare, TDeclareComputed, TBlock, Forest, NoTree, Trees}
 use Rattle.hb_deriv.specs.Judge.{Key, Types, Typed, Verdict, object, variable_type, operands, kept, named, declaration_type, keys_of, call_type, judge, judge_args, Subject, variables_of, has_count}
@@ -48,12 +47,12 @@ abbrev mutual
       events types self a G ++ behind (judge types self a G) (λ r. events types self b r.0 ++ behind (judge types self b r.0) (λ q. done id (operands id o q.0 r.1 q.1)))
   events types self (TIf id c a b) G =
       events types self c G ++ behind (judge types self c G)
-          (λ r. events types self a r.0 ++ behind (judge types self a r.0) (λ p. events types self b r.0 ++ behind (judge types self b r.0) (λ q. Done id (join_of p.1 q.1) ∷ [])))
+      (λ r. events types self a r.0 ++ behind (judge types self a r.0) (λ p. events types self b r.0 ++ behind (judge types self b r.0) (λ q. Done id (join_of p.1 q.1) ∷ [])))
   events types self (TWhile id c b) G =
       events types self c G ++ behind (judge types self c G) (λ r. events types self b r.0 ++ behind (judge types self b r.0) (λ q. done id (kept id G r.0 q.0)))
   events types self (TCall id r m args) G =
       events types self r G ++ behind (judge types self r G)
-          (λ p. events_args types self args p.0 [] ++ behind (judge_args types self args p.0 []) (λ q. look_at id (keys_of p.1 m) ++ done id (call_type types id m q.0 p.1 q.1)))
+      (λ p. events_args types self args p.0 [] ++ behind (judge_args types self args p.0 []) (λ q. look_at id (keys_of p.1 m) ++ done id (call_type types id m q.0 p.1 q.1)))
   events types self (TDef id c m s b) G = Done id ty.Nil ∷ []
   events types self (TDefComputed id c e s b) G = events types self e G ++ behind (judge types self e G) (λ r. done id (named id r.0 r.1 ty.Nil))
   events types self (TDeclare id c m s asks) G = Done id (declaration_type asks) ∷ []

@@ -1,11 +1,8 @@
 -- The first fault, as a relation by cases: the first part that fails, where those before it are judged.
 use Rattle.std.specs.Prelude.{◌≡◌, ℕ, List, [], ◌∷◌, ◌++◌, length, Some, None, Bool, false, ◌&&◌}
-use Rattle.hb_types.specs.declared.types.Ty.{Ty}
+use Rattle.hb_types.specs.declared.{types.Ty.Ty, ids.ClassId.ClassId, types.MethodTy.MethodTy}
 use Rattle.hb_types.specs.declared.types.Ty.TheVariants as ty
-use Rattle.hb_types.specs.declared.ids.ClassId.{ClassId}
-use Rattle.hb_types.specs.declared.types.MethodTy.{MethodTy}
-use Rattle.hb_types.specs.Types.{is_below, params_of}
-use Rattle.hb_types.specs.Variables.{Variables, get, keeps}
+use Rattle.hb_types.specs.{Types.is_below, Types.params_of, Variables.Variables, Variables.get, Variables.keeps}
 use Rattle.hb_tree.specs.declared.node.Op.{Op}
 use Rattle.hb_tree.specs.Tree.{Tree, TVar, TAssign, TPrint, TToStr, TNot, TBinary, TIf, TWhile, TCall, TDefComputed, TDeclareComputed, TBlock, Forest, Trees, id_of}
 use Rattle.hb_deriv.specs.declared.ill.Ill.{Ill}

@@ -1,16 +1,14 @@
 -- The judgement, computed: the type of an expression and the variables behind it, or the first fault.
 use Rattle.std.specs.Prelude.{ℕ, List, [], ◌∷◌, ◌++◌, length, Option, Some, None, Result, Ok, Err, Bool, true, false, nat_eq, if◌then◌else◌, ◌&&◌}
-use Rattle.hb_types.specs.declared.types.Ty.{Ty}
+use Rattle.hb_types.specs.declared.{types.Ty.Ty, types.MethodTy.MethodTy}
 use Rattle.hb_types.specs.declared.types.Ty.TheVariants as ty
-use Rattle.hb_types.specs.declared.types.MethodTy.{MethodTy}
 use Rattle.hb_types.specs.Types.{is_below, join_of, params_of}
 use Rattle.hb_types.specs.Variables.{Variables, variable, get, set, join, keeps}
 use Rattle.hb_tree.specs.declared.node.Op.{Op}
 use Rattle.hb_tree.specs.declared.node.Op.TheVariants as op
 use Rattle.hb_tree.specs.Tree.{Tree, TNil, TTrue, TFalse, TSelf, TInt, TText, TVar, TNew, TAssign, TPrint, TToStr, TNot, TBinary, TIf, TWhile, TCall, TDef, TDefComputed}
 use Rattle.hb_tree.specs.Tree.{TDeclare, TDeclareComputed, TBlock, Forest, NoTree, Trees, id_of}
-use Rattle.hb_deriv.specs.declared.ill.Ill.{Ill}
-use Rattle.hb_deriv.specs.declared.ill.Reason.{Reason}
+use Rattle.hb_deriv.specs.declared.{ill.Ill.Ill, ill.Reason.Reason}
 use Rattle.hb_deriv.specs.declared.ill.Reason.TheVariants as reason
 
 -- a class, and the name of a method

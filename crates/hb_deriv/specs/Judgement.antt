@@ -1,9 +1,7 @@
 -- The judgement, as a relation by cases.
 use Rattle.std.specs.Prelude.{◌≡◌, ℕ, ℤ, List, [], ◌∷◌, ◌++◌, length, Some, Bool, true}
-use Rattle.hb_types.specs.declared.types.Ty.{Ty}
+use Rattle.hb_types.specs.declared.{types.Ty.Ty, ids.ClassId.ClassId, types.MethodTy.MethodTy}
 use Rattle.hb_types.specs.declared.types.Ty.TheVariants as ty
-use Rattle.hb_types.specs.declared.ids.ClassId.{ClassId}
-use Rattle.hb_types.specs.declared.types.MethodTy.{MethodTy}
 use Rattle.hb_types.specs.Types.{is_below, join_of, params_of}
 use Rattle.hb_types.specs.Variables.{Variables, get, set, join, keeps}
 use Rattle.hb_tree.specs.declared.node.Op.{Op}

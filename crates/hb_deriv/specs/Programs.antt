@@ -2,13 +2,9 @@
 use Rattle.std.specs.Prelude.{◌≡◌, ℕ, slice_get, Option, Some, None}
 use Rattle.std.specs.Option.{option_map}
 use Rattle.hb_types.specs.declared.types.MethodTy.{MethodTy}
+use Rattle.hb_tree.specs.{Table.Table, Nodes.params_of, TreeAt.tree_at}
 use Rattle.hb_tree.specs.declared.parts.Body.{Body}
-use Rattle.hb_tree.specs.Table.{Table}
-use Rattle.hb_tree.specs.Nodes.{params_of}
-use Rattle.hb_tree.specs.TreeAt.{tree_at}
-use Rattle.hb_deriv.specs.Judge.{Subject}
-use Rattle.hb_deriv.specs.Derivation.{Content, Sites}
-use Rattle.hb_deriv.specs.Walk.{IsGood}
+use Rattle.hb_deriv.specs.{Judge.Subject, Derivation.Content, Derivation.Sites, Walk.IsGood}
 
 -- the type at a type site of the program; another site has none
 abbrev pub sites_of : Table → Sites

@@ -6,8 +6,7 @@ use Rattle.hb_types.specs.Types.{same_ty, is_below, join_of}
 use Rattle.hb_types.specs.Variables.{Variables, get, set, join}
 use Rattle.hb_tree.specs.Tree.{Tree, TNil, TTrue, TFalse, TSelf, TInt, TText, TVar, TNew, TAssign, TPrint, TToStr, TNot, TBinary, TIf, TWhile, TCall, TDef, TDefComputed}
 use Rattle.hb_tree.specs.Tree.{TDeclare, TDeclareComputed, TBlock, Forest, NoTree, Trees}
-use Rattle.hb_deriv.specs.declared.raw.Used.{Used}
-use Rattle.hb_deriv.specs.declared.raw.Step.{Step}
+use Rattle.hb_deriv.specs.declared.{raw.Used.Used, raw.Step.Step}
 use Rattle.hb_deriv.specs.Judge.{Key, Typed, Verdict, object, variable_type, operands, kept, named, declaration_type, keys_of, call_type, Subject, variables_of, has_count}
 use Rattle.hb_deriv.specs.Events.{same_key, has}
 use Rattle.hb_deriv.specs.Derivation.{Content, Sites, key_of, table}

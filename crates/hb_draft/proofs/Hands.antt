@@ -7,8 +7,7 @@ use Rattle.std.proofs.lemmas.List.Sorted.{All-permutation, IsPermutation-reverse
 use Rattle.hb_types.specs.declared.ids.NodeId.{NodeId}
 use Rattle.hb_tree.specs.{Table.Table, Tree.Tree, Tree.Trees, Counts.height, Program.HasPlaces, Program.IsKnownIn}
 use Rattle.hb_tree.specs.declared.node.Placed.{Placed}
-use Rattle.hb_tree.specs.Nodes.{numbers_of, exprs_of, blocks_of}
-use Rattle.hb_tree.specs.TreeAt.{tree_at, tree_of, forest_at}
+use Rattle.hb_tree.specs.{Nodes.numbers_of, Nodes.exprs_of, Nodes.blocks_of, TreeAt.tree_at, TreeAt.tree_of, TreeAt.forest_at}
 use Rattle.hb_draft.specs.Kept.{IsKept, heights_of}
 use Rattle.hb_draft.specs.Put.{CanPut, PutsNode, with_node, last_nodes}
 use Rattle.hb_draft.specs.Unfinished.{Unfinished, IsExprPart, HasExprs, Puts, in_hand, trees_of, last_in, forest_of}

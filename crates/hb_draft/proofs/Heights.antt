@@ -1,8 +1,7 @@
 -- The height of a node from those of its parts, and the heights of the trees in hand.
 use Rattle.std.proofs.Common.{◌≡◌, ℕ, ◌+◌, ◌<◌, ◌≤◌, max, List, [], ◌∷◌, ◌++◌, map, length, take, drop, length-drop, ◌-◌, refl, sym, ap, ◌∙◌, subst, arith, option_map, inl, inr}
 use Rattle.std.specs.List.{AllByRecursion}
-use Rattle.std.proofs.lemmas.List.{take-append-drop, take_all, length-map}
-use Rattle.std.proofs.lemmas.Option.{slice_get_cases}
+use Rattle.std.proofs.{lemmas.List.take-append-drop, lemmas.List.take_all, lemmas.List.length-map, lemmas.Option.slice_get_cases}
 use Rattle.hb_types.specs.declared.ids.NodeId.{NodeId}
 use Rattle.hb_tree.specs.{Table.Table, Tree.Tree, Counts.height, Counts.highest}
 use Rattle.hb_tree.specs.declared.node.Node.{Node}

@@ -8,10 +8,8 @@ use Rattle.hb_tree.specs.{Table.Table, Counts.height, Counts.highest, Grows.IsFo
 use Rattle.hb_tree.specs.declared.{node.Node.Node, node.Placed.Placed}
 use Rattle.hb_tree.specs.declared.node.Node.TheVariants as node
 use Rattle.hb_tree.specs.declared.node.Method.TheVariants as method
-use Rattle.hb_tree.specs.Tree.{Tree, IsExpr, IsBlock}
+use Rattle.hb_tree.specs.{Tree.Tree, Tree.IsExpr, Tree.IsBlock, TreeAt.forest_at, TreeAt.tree_of, TreeAt.tree_at, Program.IsExprNode, Program.IsBlockNode, Program.all_parts}
 use Rattle.hb_tree.specs.Nodes.{args_of, items_of, numbers_of, node_at, exprs_of, blocks_of, parts_of, AllParts}
-use Rattle.hb_tree.specs.TreeAt.{forest_at, tree_of, tree_at}
-use Rattle.hb_tree.specs.Program.{IsExprNode, IsBlockNode, all_parts}
 use Rattle.hb_draft.proofs.Lists.{each-append, each-flat_map}
 
 highest-forest : (f : ℕ → Tree) (is : List NodeId) → AllByRecursion (λ j. height (f j) < 256) (numbers_of is) → highest (forest_at f is) < 256

@@ -3,10 +3,8 @@ use Rattle.std.proofs.Common.{◌≡◌, ℕ, ◌+◌, ◌<◌, ◌≤◌, List,
 use Rattle.hb_types.specs.declared.{ids.NodeId.NodeId, ids.NameId.NameId}
 use Rattle.hb_tree.specs.declared.{node.ArgList.ArgList, node.Op.Op, node.Node.Node, node.Placed.Placed, limits.TheConstants.NODES_MAX}
 use Rattle.hb_tree.specs.declared.node.Node.TheVariants as node
-use Rattle.hb_tree.specs.Tree.{Tree, TCall}
+use Rattle.hb_tree.specs.{Tree.Tree, Tree.TCall, TreeAt.tree_at, TreeAt.tree_of, TreeAt.forest_at, Program.IsArgList, Program.HasPlaces, Program.IsKnownIn}
 use Rattle.hb_tree.specs.Nodes.{numbers_of, args_of, exprs_of, blocks_of}
-use Rattle.hb_tree.specs.TreeAt.{tree_at, tree_of, forest_at}
-use Rattle.hb_tree.specs.Program.{IsArgList, HasPlaces, IsKnownIn}
 use Rattle.hb_draft.specs.Put.{CanPut, PutsNode, with_node, last_nodes}
 use Rattle.hb_draft.specs.Unfinished.{Unfinished, HasExprs, Puts, HasTurn, HasBranches, in_hand, unary_over, if_over, while_over, binary_over, call_over, receive, last_in, forest_of}
 use Rattle.hb_draft.proofs.Hands.{length-hand, can_put, puts, next-hand, forest-hand, last_one, last_two}

@@ -1,8 +1,7 @@
 -- Words by their bytes: what a list of vectors says of the list of their contents.
 use Rattle.std.proofs.Common.{◌≡◌, ℕ, suc, arith, ◌+◌, ◌≤◌, if◌then◌else◌, take, length-append, Bool, true, false, cond, not, ◌||◌, List, [], ◌∷◌, ◌++◌, map, length, Some, None, refl, sym, ap, ◌∙◌, position, true≢false}
-use Rattle.std.specs.Prelude.{slice_get, bytes_eq, nat_lt}
+use Rattle.std.specs.{Prelude.slice_get, Prelude.bytes_eq, Prelude.nat_lt, Cmp.Lexicographic.same_text}
 use Rattle.std.specs.List.{list_any, prefix_len, position_or_len, IsDistinct, AllByRecursion}
-use Rattle.std.specs.Cmp.Lexicographic.{same_text}
 use Rattle.std.proofs.{lemmas.Cmp.nat_list_eq_equiv, lemmas.Map.Keys.IsDistinct-push, lemmas.Option.none-some}
 use Rattle.hb_tree.specs.Grows.{BeginsWith}
 use Rattle.indexmap.specs.IndexSet.{insert_key}

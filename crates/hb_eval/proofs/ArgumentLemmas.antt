@@ -1,35 +1,21 @@
 -- The receiver and the arguments of a call.
 use Rattle.std.proofs.Common.{◌≡◌, ℕ, suc, ◌+◌, ◌<◌, ◌≤◌, List, [], ◌∷◌, ◌++◌, length, get_or, take, drop, Some, None, refl, sym, ap, ◌∙◌, arith, Vec, Global}
-use Rattle.std.specs.Prelude.{reverse, map}
-use Rattle.std.specs.List.{AllByRecursion}
-use Rattle.std.proofs.Common.{zero}
+use Rattle.std.specs.{Prelude.reverse, Prelude.map, List.AllByRecursion}
+use Rattle.std.proofs.{Common.zero, Math.Seq.drop-append_seam, Math.Seq.take-append_seam}
 use Rattle.std.proofs.lemmas.List.{take-append-le, drop-append-le, length-drop}
-use Rattle.std.proofs.Math.Seq.{drop-append_seam, take-append_seam}
 use Rattle.hb_types.specs.declared.ids.NodeId.{NodeId}
 use Rattle.hb_tree.specs.Table.{Table}
 use Rattle.hb_tree.specs.TreeAt.{tree_at, forest_at, IsExprAt}
 use Rattle.hb_tree.specs.Tree.{Tree, TCall, Forest, NoTree, Trees}
 use Rattle.hb_names.specs.Names.{Name}
-use Rattle.hb_tables.specs.declared.entry.Entry.{Entry}
-use Rattle.hb_tables.specs.declared.entry.Act.{Act}
-use Rattle.hb_eval.specs.declared.state.Hand.{Hand}
+use Rattle.hb_tables.specs.declared.{entry.Entry.Entry, entry.Act.Act}
+use Rattle.hb_eval.specs.declared.{state.Hand.Hand, value.Value.Value, cont.Cont.Cont, framed.Framed.Framed, state.State.State, state.Move.Move}
 use Rattle.hb_eval.specs.declared.state.Hand.TheVariants as hands
-use Rattle.hb_eval.specs.declared.value.Value.{Value}
-use Rattle.hb_eval.specs.declared.cont.Cont.{Cont}
 use Rattle.hb_eval.specs.declared.cont.Cont.TheVariants as cont
-use Rattle.hb_eval.specs.declared.framed.Framed.{Framed}
-use Rattle.hb_eval.specs.declared.state.State.{State}
-use Rattle.hb_eval.specs.declared.state.Move.{Move}
-use Rattle.hb_eval.specs.State.{St, then_do}
-use Rattle.hb_eval.specs.Meaning.{ev, ev_arguments}
+use Rattle.hb_eval.specs.{State.St, State.then_do, Meaning.ev, Meaning.ev_arguments, Steps.arguments_in, Steps.forest_size, Stacks.frames_at, Entries.calling}
 use Rattle.hb_eval.specs.Machine.{World, Frames, meaning, room, resume, st_of, trees_from, arguments_from}
-use Rattle.hb_eval.specs.Steps.{arguments_in, forest_size}
-use Rattle.hb_eval.specs.Stacks.{frames_at}
 use Rattle.hb_eval.specs.Turns.{Telling, world, with_value, with_operands, after, Goes, Reads, Turned}
-use Rattle.hb_eval.specs.Entries.{calling}
-use Rattle.hb_eval.proofs.BlockLemmas.{from_place, from_end}
-use Rattle.hb_eval.proofs.StackLemmas.{reverse_drop, reverse_take}
-use Rattle.hb_eval.proofs.TurnLemmas.{reads_none}
+use Rattle.hb_eval.proofs.{BlockLemmas.from_place, BlockLemmas.from_end, StackLemmas.reverse_drop, StackLemmas.reverse_take, TurnLemmas.reads_none}
 
 -- a receiver that came is an operand
 pub receiver_came : (t : Table) (id : NodeId) (frames : List Framed) (old mid : State) (ops : Vec Value Global) (a : Value) → ops.items ≡ old.operands.items ++ old.acc ∷ [] → mid ≡ record old { operands = ops; acc = a }
@@ -48,7 +34,8 @@ receiver_came t id frames old mid ops a pushed is names ks read journal =
     ∙ ap (λ l. resume w ks (reverse (take n ops.items)) fs (arguments_from w (room fs) (tree_at t id.0) 0 l s)) (sym high))
 
 -- an argument that came is an operand behind those before
-pub argument_came : (t : Table) (id : NodeId) (n at : ℕ) (frames : List Framed) (old mid : State) (ops : Vec Value Global) (a : Value) → at + suc n ≡ length old.operands.items → ops.items ≡ old.operands.items ++ old.acc ∷ [] → mid ≡ record old { operands = ops; acc = a }
+pub argument_came : (t : Table) (id : NodeId) (n at : ℕ) (frames : List Framed) (old mid : State) (ops : Vec Value Global) (a : Value) → at + suc n ≡ length old.operands.items
+    → ops.items ≡ old.operands.items ++ old.acc ∷ [] → mid ≡ record old { operands = ops; acc = a }
     → (names : List Name) (ks : List Cont) (read : List (ℕ × Act)) (journal : List Act)
     → with_value t (cont.Arguments id n) frames old names ks read journal ≡ with_operands t at (λ w room vs s. arguments_from w room (tree_at t id.0) (suc n) vs s) frames mid names ks read journal
 unfolding then_do
@@ -65,7 +52,8 @@ argument_came t id n at frames old mid ops a size pushed is names ks read journa
     ∙ ap (λ l. resume w ks (reverse (take at ops.items)) fs (arguments_from w (room fs) (tree_at t id.0) (suc n) (l ++ old.acc ∷ []) s)) (reverse_take old_ops at (suc n) size)
     ∙ ap (λ l. resume w ks (reverse (take at ops.items)) fs (arguments_from w (room fs) (tree_at t id.0) (suc n) l s)) (sym high))
 
-argument_next : (w : World) (room n id r m : ℕ) (e a : Tree) (args : Forest) (vs : List Value) (s : St) → e ≡ TCall id (tree_at w.program r) m args → trees_from n args ≡ Trees a (trees_from (suc n) args) → length vs ≡ suc n
+argument_next : (w : World) (room n id r m : ℕ) (e a : Tree) (args : Forest) (vs : List Value) (s : St) → e ≡ TCall id (tree_at w.program r) m args
+    → trees_from n args ≡ Trees a (trees_from (suc n) args) → length vs ≡ suc n
     → arguments_from w room e n vs s ≡ then_do (ev w.program w.names (w.calls room) a s) (λ v s. arguments_from w room e (suc n) (vs ++ v ∷ []) s)
 argument_next w room n id r m e a args [] s is here len = absurd (omega arith)
 argument_next w room n id r m e a args (v ∷ vs) s is here len =
@@ -121,7 +109,8 @@ argument_expr t (i ∷ ids) zero d all lt = all.0
 argument_expr t (i ∷ ids) (suc n) d all lt = argument_expr t ids n d all.1 (omega (arith, lt))
 
 -- the same turn, as it is seen from a state before
-pub turned_before : (t : Table) (known : List Name) (c : ℕ) (past now : List Entry) (taken more ended pending weight : ℕ) (frames : List Framed) (old mid : State) (new_frames : List Framed) (new : State) (first second : Telling) (was conts : List Cont) (result : Hand)
+pub turned_before : (t : Table) (known : List Name) (c : ℕ) (past now : List Entry) (taken more ended pending weight : ℕ) (frames : List Framed) (old mid : State) (new_frames : List Framed)
+    (new : State) (first second : Telling) (was conts : List Cont) (result : Hand)
     → ((m : Move) → Reads known c past now mid new second (after t m new_frames new) → Reads known c past now old new first (after t m new_frames new))
     → ((m : Move) → Goes t taken ended pending frames mid new_frames new m → Goes t more ended pending frames old new_frames new m)
     → Turned t known c past now taken ended pending weight frames mid new_frames new second was conts result → Turned t known c past now more ended pending weight frames old new_frames new first was conts result

@@ -1,24 +1,19 @@
 -- How expressions begin.
 use Rattle.std.proofs.Common.{◌≡◌, ℕ, ◌+◌, ◌-◌, ◌≢◌, List, [], ◌∷◌, take, drop, reverse, Some, None, Bool, Result, Ok, Err, IfOk, refl, sym, ap, ◌∙◌, nat_eq, arith}
 use Rattle.hb_types.specs.declared.ids.NodeId.{NodeId}
-use Rattle.hb_tree.specs.Table.{Table}
-use Rattle.hb_tree.specs.TreeAt.{tree_at, IsExprAt}
+use Rattle.hb_tree.specs.{Table.Table, TreeAt.tree_at, TreeAt.IsExprAt}
 use Rattle.hb_tree.specs.Tree.{Tree, TWhile, TCall, TDefComputed, TDeclareComputed, Forest, NoTree, Trees}
 use Rattle.hb_tree.proofs.Trees.{id_of-tree_at}
 use Rattle.hb_eval.specs.declared.value.Value.TheVariants as value
 use Rattle.hb_eval.specs.declared.stop.Stop.TheVariants as stop
-use Rattle.hb_eval.specs.declared.value.Value.{Value}
-use Rattle.hb_eval.specs.declared.cont.Cont.{Cont}
-use Rattle.hb_eval.specs.declared.state.State.{State}
-use Rattle.hb_eval.specs.declared.state.Hand.{Hand}
+use Rattle.hb_eval.specs.declared.{value.Value.Value, cont.Cont.Cont, state.State.State, state.Hand.Hand}
 use Rattle.hb_eval.specs.declared.state.Hand.TheVariants as hands
 use Rattle.hb_eval.specs.State.{St, Done, Halt, then_do}
 use Rattle.hb_eval.specs.Meaning.{ev, ev_arguments, choose, loop}
 use Rattle.hb_eval.specs.Fuel.{KeepsFuel}
 use Rattle.hb_eval.specs.Machine.{World, Frames, meaning, need, frames_in, method_named, plug, room, resume, st_of, trees_from, arguments_from}
 use Rattle.hb_eval.specs.Steps.{InEach, IsFine, HasNoFrame, Took, Started}
-use Rattle.hb_eval.proofs.FuelLemmas.{starved, begin_goes}
-use Rattle.hb_eval.proofs.BlockLemmas.{loop_turn}
+use Rattle.hb_eval.proofs.{FuelLemmas.starved, FuelLemmas.begin_goes, BlockLemmas.loop_turn}
 
 -- one expression has begun, and took one unit of fuel
 abbrev pub begun : St → St

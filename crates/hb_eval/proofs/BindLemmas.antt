@@ -3,8 +3,7 @@ use Rattle.std.proofs.Common.{◌≡◌, ℕ, zero, suc, ◌+◌, ◌-◌, ◌�
 use Rattle.std.proofs.lemmas.List.{length-map}
 use Rattle.hb_types.specs.declared.ids.NameId.{NameId}
 use Rattle.hb_eval.specs.declared.value.Value.{Value}
-use Rattle.hb_eval.specs.State.{Bindings}
-use Rattle.hb_eval.specs.Calls.{bindings}
+use Rattle.hb_eval.specs.{State.Bindings, Calls.bindings}
 
 bindings_none : (xs : List ℕ) (vs : List Value) → min (length xs) (length vs) ≡ 0 → bindings xs vs ≡ []
 bindings_none [] vs h = refl
@@ -12,7 +11,8 @@ bindings_none (x ∷ xs) [] h = refl
 bindings_none (x ∷ xs) (v ∷ vs) h = absurd (omega (arith, h))
 
 -- all are bound
-pub bound_all : (vars whole : Bindings) (params : List NameId) (ops : List Value) (from i count : ℕ) → vars ++ bindings (map (λ (x : NameId). x.0) (drop i params)) (drop (from + i) ops) ≡ whole → count ≡ min (length params) (length ops - from) → count ≤ i → vars ≡ whole
+pub bound_all : (vars whole : Bindings) (params : List NameId) (ops : List Value) (from i count : ℕ) → vars ++ bindings (map (λ (x : NameId). x.0) (drop i params)) (drop (from + i) ops) ≡ whole
+    → count ≡ min (length params) (length ops - from) → count ≤ i → vars ≡ whole
 bound_all vars whole params ops from i count e is past =
     let xs = map (λ (x : NameId). x.0) (drop i params) in
     let vs = drop (from + i) ops in

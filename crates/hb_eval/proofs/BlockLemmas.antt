@@ -1,23 +1,18 @@
 -- The items of a block from a place on, and loops.
 use Rattle.std.proofs.Common.{◌≡◌, ℕ, zero, suc, ◌+◌, ◌-◌, ◌<◌, ◌≤◌, List, [], ◌∷◌, length, All, get_or, Some, None, refl, sym, ap, ◌∙◌, subst, arith, add-one}
 use Rattle.std.specs.Prelude.{reverse, true, false, if◌then◌else◌, drop, Option, Bool}
-use Rattle.std.proofs.lemmas.List.{length-take}
-use Rattle.std.proofs.lemmas.List.Elements.{All-get_or}
+use Rattle.std.proofs.{lemmas.List.length-take, lemmas.List.Elements.All-get_or}
 use Rattle.hb_types.specs.declared.ids.NodeId.{NodeId}
-use Rattle.hb_tree.specs.Table.{Table}
-use Rattle.hb_tree.specs.Nodes.{items_of}
+use Rattle.hb_tree.specs.{Table.Table, Nodes.items_of}
 use Rattle.hb_tree.specs.TreeAt.{tree_at, forest_at, IsExprAt, IsBlockAt}
 use Rattle.hb_tree.specs.Tree.{Tree, TBlock, Forest, NoTree, Trees, IsBlock}
 use Rattle.hb_eval.specs.declared.state.Hand.TheVariants as hands
 use Rattle.hb_eval.specs.declared.value.Value.TheVariants as value
-use Rattle.hb_eval.specs.declared.cont.Cont.{Cont}
+use Rattle.hb_eval.specs.declared.{cont.Cont.Cont, state.State.State, state.Move.Move}
 use Rattle.hb_eval.specs.declared.cont.Cont.TheVariants as cont
-use Rattle.hb_eval.specs.declared.state.State.{State}
-use Rattle.hb_eval.specs.declared.state.Move.{Move}
-use Rattle.hb_eval.specs.Values.{is_false}
+use Rattle.hb_eval.specs.{Values.is_false, Fuel.KeepsFuel}
 use Rattle.hb_eval.specs.State.{St, Answer, Lost, Done, Halt, then_do}
 use Rattle.hb_eval.specs.Meaning.{ev, ev_items, choose, loop}
-use Rattle.hb_eval.specs.Fuel.{KeepsFuel}
 use Rattle.hb_eval.specs.Machine.{World, need, meaning, trees_from, items_in, items_from, room, resume, stands, st_of}
 use Rattle.hb_eval.specs.Steps.{Starts, Moves, Keeps, IsFine, onto, need_of, forest_size}
 use Rattle.hb_eval.proofs.FuelLemmas.{loop_step, leaves_expr, leaves_tree}
@@ -155,7 +150,9 @@ unfolding then_do
 looped w c b old new m move fine test starts flat is =
     rw is (record {
       same = λ ks fs read journal.
-          ap (λ (x : Bool). resume w ks (reverse old.operands.items) fs (if x then Done value.Nil (st_of old read journal) else then_do (meaning w (room fs) b.0 (st_of old read journal)) (λ x s. loop (meaning w (room fs) c.0) (meaning w (room fs) b.0) s))) test
+          ap (λ (x : Bool). resume w ks (reverse old.operands.items) fs
+              (if x then Done value.Nil (st_of old read journal) else then_do (meaning w (room fs) b.0 (st_of old read journal))
+              (λ x s. loop (meaning w (room fs) c.0) (meaning w (room fs) b.0) s))) test
           ∙ starts.same (cont.Turn c b ∷ ks) fs read journal
           ∙ ap (λ (u : Option Cont). stands w (onto m.push (onto u (cont.Turn c b ∷ ks))) fs m.hand new read journal) flat;
       keeps = record {

@@ -1,41 +1,25 @@
 -- Frames that end, and stops that pass.
 use Rattle.std.proofs.Common.{◌≡◌, ℕ, zero, suc, ◌+◌, ◌-◌, List, [], ◌∷◌, ◌++◌, length, take, drop, Some, None, refl, sym, ap, ◌∙◌, subst, arith, append-nil, length-append, eq-eqb, Vec, Global}
 use Rattle.std.specs.Prelude.{reverse, Bool, false, cond, count_by}
-use Rattle.std.proofs.lemmas.List.Sums.{sum_by-cons}
+use Rattle.std.proofs.{lemmas.List.Sums.sum_by-cons, lemmas.List.length-take-le, lemmas.List.length-reverse, Math.Seq.take-append_seam}
 use Rattle.std.specs.List.{AllByRecursion}
-use Rattle.std.proofs.lemmas.List.{length-take-le, length-reverse}
-use Rattle.std.proofs.Math.Seq.{take-append_seam}
-use Rattle.hb_types.specs.declared.ids.CallNo.{CallNo}
-use Rattle.hb_types.specs.declared.ids.KeyId.{KeyId}
-use Rattle.hb_types.specs.declared.ids.NameId.{NameId}
+use Rattle.hb_types.specs.declared.{ids.CallNo.CallNo, ids.KeyId.KeyId, ids.NameId.NameId}
 use Rattle.hb_tree.specs.Table.{Table}
 use Rattle.hb_names.specs.Names.{Name}
-use Rattle.hb_tables.specs.declared.entry.Entry.{Entry}
-use Rattle.hb_tables.specs.declared.entry.Act.{Act}
+use Rattle.hb_tables.specs.declared.{entry.Entry.Entry, entry.Act.Act, entry.Act.TheVariants.Free}
 use Rattle.hb_tables.specs.declared.entry.By.TheVariants as by
-use Rattle.hb_tables.specs.declared.entry.Act.TheVariants.{Free}
 use Rattle.hb_tables.specs.Frames.{acts}
-use Rattle.hb_call.specs.Held.{frees}
-use Rattle.hb_call.specs.Reading.{freed}
+use Rattle.hb_call.specs.{Held.frees, Reading.freed}
 use Rattle.hb_eval.specs.declared.state.Hand.TheVariants as hands
-use Rattle.hb_eval.specs.declared.value.Value.{Value}
-use Rattle.hb_eval.specs.declared.stop.Stop.{Stop}
-use Rattle.hb_eval.specs.declared.cont.Cont.{Cont}
+use Rattle.hb_eval.specs.declared.{value.Value.Value, stop.Stop.Stop, cont.Cont.Cont, framed.Framed.Framed, state.State.State, state.Move.Move}
 use Rattle.hb_eval.specs.declared.cont.Cont.TheVariants as cont
-use Rattle.hb_eval.specs.declared.framed.Framed.{Framed}
-use Rattle.hb_eval.specs.declared.state.State.{State}
-use Rattle.hb_eval.specs.declared.state.Move.{Move}
-use Rattle.hb_eval.specs.Values.{IsKnown}
+use Rattle.hb_eval.specs.{Values.IsKnown, Calls.acts_before, Calls.read_frees, Runs.is_call, Runs.is_entered, Steps.SameCalls}
 use Rattle.hb_eval.specs.State.{Bindings, St, Answer, Done, Halt, tagged, then_do}
-use Rattle.hb_eval.specs.Calls.{acts_before, read_frees}
-use Rattle.hb_eval.specs.Runs.{is_call, is_entered}
 use Rattle.hb_eval.specs.Machine.{World, Frames, need, frames_in, plug, room, resume, frame_plug, st_of}
-use Rattle.hb_eval.specs.Steps.{SameCalls}
 use Rattle.hb_eval.specs.Stacks.{holds_of, ends, views, frames_at, Based, IsKnownFrame}
 use Rattle.hb_eval.specs.Turns.{world, with_value, after, Tallies, Reads, Goes}
 use Rattle.hb_eval.specs.Ends.{Leaves, with_stop, Lowers}
-use Rattle.hb_eval.proofs.KnownLemmas.{taken_known}
-use Rattle.hb_eval.proofs.StackLemmas.{pushed_first, reverse_drop}
+use Rattle.hb_eval.proofs.{KnownLemmas.taken_known, StackLemmas.pushed_first, StackLemmas.reverse_drop}
 
 pub before_rest : (a b : List Act) → acts_before b (a ++ b) ≡ a
 before_rest a b =
@@ -84,10 +68,12 @@ top_view old_frames new_frames f old vars fs is =
     ∙ ap (λ (w : Bindings). ends f (drop f.base w) ∷ views (reverse new_frames) (take f.base w)) (sym is)
 
 -- what a frame's end keeps
-pub leaves_lowers : (t : Table) (c : ℕ) (was now : List Entry) (old_frames : List Framed) (old : State) (new_frames : List Framed) (new : State) → Leaves c was now old_frames old new_frames new → Lowers t 0 1 old_frames old new_frames new
+pub leaves_lowers : (t : Table) (c : ℕ) (was now : List Entry) (old_frames : List Framed) (old : State) (new_frames : List Framed) (new : State) → Leaves c was now old_frames old new_frames new
+    → Lowers t 0 1 old_frames old new_frames new
 leaves_lowers t c was now old_frames old new_frames new l = go l.frame new.vars l.frames l.vars l.state
   where
-    go : (f : Framed) (vs : Vec (NameId × Value) Global) → old_frames ≡ new_frames ++ f ∷ [] → vs.items ≡ take old.base old.vars.items → new ≡ record old { vars = vs; base = f.base; class = f.class } → Lowers t 0 1 old_frames old new_frames new
+    go : (f : Framed) (vs : Vec (NameId × Value) Global) → old_frames ≡ new_frames ++ f ∷ [] → vs.items ≡ take old.base old.vars.items
+        → new ≡ record old { vars = vs; base = f.base; class = f.class } → Lowers t 0 1 old_frames old new_frames new
     go f vs fs vars state =
         let rev : reverse old_frames ≡ f ∷ reverse new_frames = ap reverse fs ∙ pushed_first new_frames f in
         rw state (record {
@@ -116,7 +102,9 @@ pub leaves_reads : (known : List Name) (t : Table) (c : ℕ) (was now : List Ent
     → Reads known c was now old new (with_value t cont.Frame old_frames old) (after t move new_frames new)
 leaves_reads known t c was now old_frames old new_frames new move l mv = go l.frame new.vars l.frames l.vars l.grows l.state
   where
-    go : (f : Framed) (vs : Vec (NameId × Value) Global) → old_frames ≡ new_frames ++ f ∷ [] → vs.items ≡ take old.base old.vars.items → acts c now ≡ acts c was ++ frees f.frame.q f.frame.held.items → new ≡ record old { vars = vs; base = f.base; class = f.class } → Reads known c was now old new (with_value t cont.Frame old_frames old) (after t move new_frames new)
+    go : (f : Framed) (vs : Vec (NameId × Value) Global) → old_frames ≡ new_frames ++ f ∷ [] → vs.items ≡ take old.base old.vars.items
+        → acts c now ≡ acts c was ++ frees f.frame.q f.frame.held.items → new ≡ record old { vars = vs; base = f.base; class = f.class }
+        → Reads known c was now old new (with_value t cont.Frame old_frames old) (after t move new_frames new)
     go f vs fs vars grows state =
         let top = top_view old_frames new_frames f old vs.items fs vars in
         let fr = frees f.frame.q f.frame.held.items in
@@ -137,7 +125,9 @@ pub leaves_stop : (known : List Name) (t : Table) (c : ℕ) (was now : List Entr
     → Reads known c was now old new (with_stop t (cont.Frame ∷ []) old_frames old) (with_stop t [] new_frames new)
 leaves_stop known t c was now old_frames old new_frames new l = go l.frame new.vars l.frames l.vars l.grows l.state
   where
-    go : (f : Framed) (vs : Vec (NameId × Value) Global) → old_frames ≡ new_frames ++ f ∷ [] → vs.items ≡ take old.base old.vars.items → acts c now ≡ acts c was ++ frees f.frame.q f.frame.held.items → new ≡ record old { vars = vs; base = f.base; class = f.class } → Reads known c was now old new (with_stop t (cont.Frame ∷ []) old_frames old) (with_stop t [] new_frames new)
+    go : (f : Framed) (vs : Vec (NameId × Value) Global) → old_frames ≡ new_frames ++ f ∷ [] → vs.items ≡ take old.base old.vars.items
+        → acts c now ≡ acts c was ++ frees f.frame.q f.frame.held.items → new ≡ record old { vars = vs; base = f.base; class = f.class }
+        → Reads known c was now old new (with_stop t (cont.Frame ∷ []) old_frames old) (with_stop t [] new_frames new)
     go f vs fs vars grows state =
         let top = top_view old_frames new_frames f old vs.items fs vars in
         let fr = frees f.frame.q f.frame.held.items in
@@ -186,7 +176,8 @@ passes_operands known t c log k frames old new ops m ne after cut size =
     })
 
 -- a frame that ended gives a value
-pub lowers_goes : (t : Table) (old_frames : List Framed) (old : State) (new_frames : List Framed) (new : State) (move : Move) → Lowers t 0 1 old_frames old new_frames new → move ≡ record { under = None; push = None; hand = hands.Gives } → Goes t 0 1 0 old_frames old new_frames new move
+pub lowers_goes : (t : Table) (old_frames : List Framed) (old : State) (new_frames : List Framed) (new : State) (move : Move) → Lowers t 0 1 old_frames old new_frames new
+    → move ≡ record { under = None; push = None; hand = hands.Gives } → Goes t 0 1 0 old_frames old new_frames new move
 lowers_goes t old_frames old new_frames new move l mv =
     rw mv (record {
       under = tt;
@@ -203,7 +194,8 @@ lowers_goes t old_frames old new_frames new move l mv =
     })
 
 -- operands that a stop passes
-pub operands_lower : (t : Table) (k : Cont) (frames : List Framed) (old new : State) (ops : Vec Value Global) (m : ℕ) → (k ≡ cont.Frame → ⊥) → new ≡ record old { operands = ops } → ops.items ≡ take m old.operands.items → m + need k ≡ length old.operands.items
+pub operands_lower : (t : Table) (k : Cont) (frames : List Framed) (old new : State) (ops : Vec Value Global) (m : ℕ) → (k ≡ cont.Frame → ⊥) → new ≡ record old { operands = ops }
+    → ops.items ≡ take m old.operands.items → m + need k ≡ length old.operands.items
     → Lowers t (need k) (frames_in k) frames old frames new
 operands_lower t k frames old new ops m ne is cut size =
     let none_left = no_frame k ne in

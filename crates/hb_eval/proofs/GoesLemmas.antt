@@ -1,38 +1,20 @@
 -- What moves keep of the stacks.
 use Rattle.std.proofs.Common.{◌≡◌, ℕ, zero, suc, ◌+◌, ◌-◌, ◌<◌, ◌≤◌, List, [], ◌∷◌, ◌++◌, length, get_or, take, drop, Option, Some, None, refl, sym, ap, ◌∙◌, subst, arith, length-append, Vec, Global}
-use Rattle.std.specs.Prelude.{reverse}
-use Rattle.std.specs.List.{AllByRecursion}
+use Rattle.std.specs.{Prelude.reverse, List.AllByRecursion}
 use Rattle.std.proofs.lemmas.List.{length-take-le}
-use Rattle.hb_types.specs.declared.ids.ClassId.{ClassId}
-use Rattle.hb_types.specs.declared.ids.NameId.{NameId}
-use Rattle.hb_types.specs.declared.ids.NodeId.{NodeId}
+use Rattle.hb_types.specs.declared.{ids.ClassId.ClassId, ids.NameId.NameId, ids.NodeId.NodeId}
 use Rattle.hb_tree.specs.declared.parts.Body.{Body}
-use Rattle.hb_tree.specs.Table.{Table}
-use Rattle.hb_tree.specs.TreeAt.{tree_at, IsExprAt}
-use Rattle.hb_tree.specs.Nodes.{params_of}
+use Rattle.hb_tree.specs.{Table.Table, TreeAt.tree_at, TreeAt.IsExprAt, Nodes.params_of}
 use Rattle.hb_tree.proofs.Lists.{each_append}
 use Rattle.hb_call.specs.declared.frame.Frame.{Frame}
-use Rattle.hb_eval.specs.declared.state.Hand.{Hand}
+use Rattle.hb_eval.specs.declared.{state.Hand.Hand, value.Value.Value, stop.Stop.Stop, cont.Cont.Cont, framed.Framed.Framed, state.State.State, state.Move.Move}
 use Rattle.hb_eval.specs.declared.state.Hand.TheVariants as hands
-use Rattle.hb_eval.specs.declared.value.Value.{Value}
-use Rattle.hb_eval.specs.declared.stop.Stop.{Stop}
-use Rattle.hb_eval.specs.declared.cont.Cont.{Cont}
 use Rattle.hb_eval.specs.declared.cont.Cont.TheVariants as cont
-use Rattle.hb_eval.specs.declared.framed.Framed.{Framed}
-use Rattle.hb_eval.specs.declared.state.State.{State}
-use Rattle.hb_eval.specs.declared.state.Move.{Move}
-use Rattle.hb_eval.specs.Values.{IsKnown}
-use Rattle.hb_eval.specs.Calls.{bindings}
-use Rattle.hb_eval.specs.State.{St, Answer}
-use Rattle.hb_eval.specs.Calls.{call_in}
+use Rattle.hb_eval.specs.{Values.IsKnown, Calls.bindings, State.St, State.Answer, Calls.call_in, Machine.World, Turns.Goes}
 use Rattle.hb_eval.specs.Steps.{InEach, Starts, Moves}
-use Rattle.hb_eval.proofs.CallFuelLemmas.{calls_keep}
-use Rattle.hb_eval.specs.Machine.{World}
+use Rattle.hb_eval.proofs.{CallFuelLemmas.calls_keep, StackLemmas.pushed_first, EndLemmas.taken_each}
 use Rattle.hb_eval.specs.Steps.{AreKnown, IsCall, arguments_in, IsPlain, HasNoFrame, Keeps, SameCalls, need_of}
 use Rattle.hb_eval.specs.Stacks.{Based, IsBased, IsKnownFrame, ended_of, calls_of}
-use Rattle.hb_eval.specs.Turns.{Goes}
-use Rattle.hb_eval.proofs.StackLemmas.{pushed_first}
-use Rattle.hb_eval.proofs.EndLemmas.{taken_each}
 
 based_on : (frames : List Framed) (old new : State) → new.base ≡ old.base → length old.vars.items ≤ length new.vars.items → IsBased frames old → IsBased frames new
 based_on frames old new base size b = record { top = omega (arith, b.top, base, size); below = subst (Based (reverse frames)) (sym base) b.below }
@@ -45,10 +27,8 @@ plain_none None h = (refl, refl)
 plain_none (Some _) h = (refl, refl)
 
 few_calls : (k : Option Cont) → calls_of k ≤ 1
-few_calls None = omega arith
 few_calls (Some (cont.Receiver id)) = omega arith
-few_calls (Some (cont.Arguments id n)) = omega arith
-few_calls (Some _) = omega arith
+few_calls _ = omega arith
 
 no_end : (k : Option Cont) → HasNoFrame k → ended_of k ≡ 0
 no_end (Some cont.Frame) h = absurd h
@@ -63,7 +43,8 @@ pub keeps_moves : (t : Table) (front : Option Cont) (before : Hand) (old new : S
 keeps_moves t front before old new move h = (h [] (call_in t []) (calls_keep t [])).keeps
 
 -- what is neither part of a call nor the end of a frame
-pub plain_goes : (t : Table) (front : Option Cont) (frames : List Framed) (old new : State) (move : Move) → Keeps t front old new move → IsPlain move.under → IsPlain move.push → new.begun ≡ old.begun → SameCalls old new → (AreKnown t old → AreKnown t new)
+pub plain_goes : (t : Table) (front : Option Cont) (frames : List Framed) (old new : State) (move : Move) → Keeps t front old new move → IsPlain move.under → IsPlain move.push
+    → new.begun ≡ old.begun → SameCalls old new → (AreKnown t old → AreKnown t new)
     → Goes t (need_of front) 0 0 frames old frames new move
 plain_goes t front frames old new move k under push begun same known =
     let u = plain_none move.under under in
@@ -83,7 +64,8 @@ plain_goes t front frames old new move k under push begun same known =
     }
 
 -- an expression that begins
-pub begun_goes : (t : Table) (frames : List Framed) (old new : State) (move : Move) → Keeps t None old new move → IsPlain move.under → HasNoFrame move.push → new.begun ≡ old.begun + 1 → SameCalls old new → (AreKnown t old → AreKnown t new)
+pub begun_goes : (t : Table) (frames : List Framed) (old new : State) (move : Move) → Keeps t None old new move → IsPlain move.under → HasNoFrame move.push → new.begun ≡ old.begun + 1
+    → SameCalls old new → (AreKnown t old → AreKnown t new)
     → Goes t 0 0 0 frames old frames new move
 begun_goes t frames old new move k under push begun same known =
     let u = plain_none move.under under in
@@ -101,31 +83,8 @@ begun_goes t frames old new move k under push begun same known =
       known = λ h. record { state = known h.state; callers = h.callers };
     }
 
--- a call that stops
-pub halted_goes : (t : Table) (at made decided : ℕ) (e : Stop) (id : NodeId) (frames : List Framed) (old new : State) (ops : Vec Value Global) (move : Move) → at < length old.operands.items → ops.items ≡ take at old.operands.items
-    → new ≡ record old { operands = ops; made = made; decided = decided; stop = e; at = id } → move ≡ record { under = None; push = None; hand = hands.Stops }
-    → made ≤ old.made + 1 → (old.decided ≤ old.made → decided ≤ made) → old.decided ≤ decided
-    → Goes t (length old.operands.items - at) 0 1 frames old frames new move
-halted_goes t at made decided e id frames old new ops move lt cut is mv most fits more =
-    rw (is, mv) (record {
-      under = tt;
-      push = tt;
-      step = tt;
-      light = refl;
-      operands = omega (arith, ap length cut, length-take-le at old.operands.items (omega arith), lt);
-      frames = omega arith;
-      calls = omega (arith, most);
-      decided = fits;
-      entered = λ h. omega (arith, h, more);
-      based = λ b. record { top = b.top; below = b.below };
-      known = λ h. record {
-        state = record { acc = h.state.acc; operands = subst (AllByRecursion (IsKnown t)) (sym cut) (taken_each (IsKnown t) at old.operands.items h.state.operands); vars = h.state.vars; class = h.state.class };
-        callers = h.callers;
-      };
-    })
-
--- an argument begins
-pub argument_goes : (t : Table) (id : NodeId) (n : ℕ) (a : NodeId) (frames : List Framed) (old new : State) (move : Move) → new ≡ record old { at = a } → move ≡ record { under = None; push = Some (cont.Arguments id n); hand = hands.Begins }
+pub argument_goes : (t : Table) (id : NodeId) (n : ℕ) (a : NodeId) (frames : List Framed) (old new : State) (move : Move) → new ≡ record old { at = a }
+    → move ≡ record { under = None; push = Some (cont.Arguments id n); hand = hands.Begins }
     → IsExprAt t id.0 → IsCall (tree_at t id.0) → n < arguments_in (tree_at t id.0) → n < 4 → IsExprAt t a.0 → n < length old.operands.items
     → Goes t (suc n) 0 1 frames old frames new move
 argument_goes t id n a frames old new move is mv ex is_call few four expr there =
@@ -144,7 +103,8 @@ argument_goes t id n a frames old new move is mv ex is_call few four expr there 
     })
 
 -- the value in hand became an operand before
-pub pushed_goes : (t : Table) (n pending : ℕ) (frames : List Framed) (old mid : State) (new_frames : List Framed) (new : State) (move : Move) (ops : Vec Value Global) (a : Value) → ops.items ≡ old.operands.items ++ old.acc ∷ [] → mid ≡ record old { operands = ops; acc = a } → IsKnown t a
+pub pushed_goes : (t : Table) (n pending : ℕ) (frames : List Framed) (old mid : State) (new_frames : List Framed) (new : State) (move : Move) (ops : Vec Value Global) (a : Value)
+    → ops.items ≡ old.operands.items ++ old.acc ∷ [] → mid ≡ record old { operands = ops; acc = a } → IsKnown t a
     → Goes t (suc n) 0 pending frames mid new_frames new move → Goes t n 0 pending frames old new_frames new move
 pushed_goes t n pending frames old mid new_frames new move ops a pushed is nil g =
     go (subst (λ (x : State). Goes t (suc n) 0 pending frames x new_frames new move) is g)
@@ -162,7 +122,8 @@ pushed_goes t n pending frames old mid new_frames new move ops a pushed is nil g
       entered = g.entered;
       based = λ b. g.based (record { top = b.top; below = b.below });
       known = λ h. g.known (record {
-        state = record { acc = nil; operands = subst (AllByRecursion (IsKnown t)) (sym pushed) (each_append (IsKnown t) old.operands.items (old.acc ∷ []) h.state.operands (h.state.acc, tt)); vars = h.state.vars; class = h.state.class };
+        state = record { acc = nil; operands = subst (AllByRecursion (IsKnown t)) (sym pushed) (each_append (IsKnown t) old.operands.items (old.acc ∷ []) h.state.operands (h.state.acc, tt));
+            vars = h.state.vars; class = h.state.class };
         callers = h.callers;
       });
     }
@@ -185,8 +146,10 @@ bindings_known t (x ∷ params) (v ∷ vs) all = (all.0, bindings_known t params
 -- a body begins in a frame of its own
 pub body_goes : (t : Table) (f : Frame) (cl : ClassId) (b : Body) (at base : ℕ) (frames new_frames : List Framed) (old new : State) (ops : Vec Value Global) (vars : Vec (NameId × Value) Global) (m move : Move)
     → at < length old.operands.items → base ≡ length old.vars.items → cl.0 < length t.classes
-    → new_frames ≡ frames ++ record { frame = f; base = old.base; class = old.class } ∷ [] → ops.items ≡ take at old.operands.items → vars.items ≡ old.vars.items ++ bindings (params_of b) (drop (suc at) old.operands.items)
-    → Keeps t None (record old { operands = ops; vars = vars; base = base; class = Some cl }) new m → IsPlain m.push → new.begun ≡ old.begun → SameCalls old new → (AreKnown t (record old { operands = ops; vars = vars; base = base; class = Some cl }) → AreKnown t new)
+    → new_frames ≡ frames ++ record { frame = f; base = old.base; class = old.class } ∷ [] → ops.items ≡ take at old.operands.items
+        → vars.items ≡ old.vars.items ++ bindings (params_of b) (drop (suc at) old.operands.items)
+    → Keeps t None (record old { operands = ops; vars = vars; base = base; class = Some cl }) new m → IsPlain m.push → new.begun ≡ old.begun → SameCalls old new
+        → (AreKnown t (record old { operands = ops; vars = vars; base = base; class = Some cl }) → AreKnown t new)
     → m.under ≡ None → move ≡ record m { under = Some cont.Frame }
     → Goes t (length old.operands.items - at) 0 0 frames old new_frames new move
 body_goes t f cl b at base frames new_frames old new ops vars m move lt place class framed cut bound k push begun same known flat mv =
@@ -205,12 +168,16 @@ body_goes t f cl b at base frames new_frames old new ops vars m move lt place cl
       calls = omega (arith, p.1, begun, same.made);
       decided = λ h. omega (arith, h, same.made, same.decided);
       entered = λ h. omega (arith, h, same.own, same.fresh, same.decided);
-      based = λ h. based_on new_frames mid new k.base k.size (record { top = omega (arith, place, ap length bound, length-append old.vars.items (bindings (params_of b) args)); below = subst (λ l. Based l base) (sym rev) (omega (arith, h.top, place), h.below) });
+      based = λ h. based_on new_frames mid new k.base k.size
+          (record { top = omega (arith, place, ap length bound, length-append old.vars.items (bindings (params_of b) args));
+          below = subst (λ l. Based l base) (sym rev) (omega (arith, h.top, place), h.below) });
       known = λ h. record {
         state = known (record {
           acc = h.state.acc;
           operands = subst (AllByRecursion (IsKnown t)) (sym cut) (taken_each (IsKnown t) at old.operands.items h.state.operands);
-          vars = subst (AllByRecursion (λ b. IsKnown t b.1)) (sym bound) (each_append (λ b. IsKnown t b.1) old.vars.items (bindings (params_of b) args) h.state.vars (bindings_known t (params_of b) args (dropped_each (IsKnown t) (suc at) old.operands.items h.state.operands)));
+          vars = subst (AllByRecursion (λ b. IsKnown t b.1)) (sym bound)
+              (each_append (λ b. IsKnown t b.1) old.vars.items (bindings (params_of b) args) h.state.vars
+              (bindings_known t (params_of b) args (dropped_each (IsKnown t) (suc at) old.operands.items h.state.operands)));
           class = class;
         });
         callers = subst (AllByRecursion (IsKnownFrame t)) (sym framed) (each_append (IsKnownFrame t) frames (fr ∷ []) h.callers (h.state.class, tt));

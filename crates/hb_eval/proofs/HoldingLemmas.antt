@@ -1,26 +1,21 @@
 -- What the frames of a caller hold stays so while it goes on.
 use Rattle.std.proofs.Common.{◌≡◌, ◌⊎◌, inl, inr, ℕ, ◌+◌, ◌<◌, ◌≤◌, eqb, eq-eqb, Bool, true, false, cond, ◌&&◌, List, [], ◌∷◌, ◌++◌, length, sym, refl, ap, ◌∙◌, subst, arith}
-use Rattle.std.specs.Prelude.{map, Err}
-use Rattle.std.specs.List.{AllByRecursion}
+use Rattle.std.specs.{Prelude.map, Prelude.Err, List.AllByRecursion}
 use Rattle.std.proofs.lemmas.List.{length-map}
 use mathlib.Core.List.{IsPrefix}
 use mathlib.Core.Logic.{dite}
 use native.Mathlib.Decide.{ℕ_discrete}
-use Rattle.hb_types.specs.declared.ids.KeyId.{KeyId}
-use Rattle.hb_types.specs.declared.ids.CallNo.{CallNo}
+use Rattle.hb_types.specs.declared.{ids.KeyId.KeyId, ids.CallNo.CallNo}
 use Rattle.hb_names.specs.Names.{Name}
-use Rattle.hb_tables.specs.declared.entry.By.{By}
+use Rattle.hb_tables.specs.declared.{entry.By.By, entry.Entry.Entry, entry.Act.Act}
 use Rattle.hb_tree.proofs.Lists.{each_append}
-use Rattle.hb_tables.specs.declared.entry.Entry.{Entry}
-use Rattle.hb_tables.specs.declared.entry.Act.{Act}
 use Rattle.hb_tables.specs.History.{spot, same_call, times, without, of_caller}
 use Rattle.hb_tables.specs.Frames.{acts}
 use Rattle.hb_tables.specs.Standing.{Stand, standing, count_of}
 use Rattle.hb_tables.proofs.CallLemmas.{length_without, own_without, times_own, times_without}
 use Rattle.hb_tables.proofs.AddingLemmas.{none_without}
 use Rattle.hb_tables.proofs.StandingLemmas.{held_stands, has_part, standing_stays}
-use Rattle.hb_call.specs.declared.frame.Frame.{Frame}
-use Rattle.hb_call.specs.declared.frame.CallFail.{CallFail}
+use Rattle.hb_call.specs.declared.{frame.Frame.Frame, frame.CallFail.CallFail}
 use Rattle.hb_call.specs.declared.frame.CallFail.TheVariants as fail
 use Rattle.hb_call.specs.declared.frame.Entered.TheVariants as entered
 use Rattle.hb_call.specs.Entering.{Asks, Enters, IsFramed}
@@ -89,11 +84,6 @@ all_live : (c n : ℕ) (old new : List Entry) (frames : List Frame) → IsPrefix
 all_live c n old new [] p others out all = tt
 all_live c n old new (f ∷ frames) p others out all = (live_on c old new f p (others f.q.0 (λ e. out.0 (sym e))) all.0, all_live c n old new frames p others out.1 all.1)
 
--- Before the first call nothing is held.
-pub holding_empty : (c first : ℕ) (front : List Entry) → ((q : ℕ) → stands c q front ≡ []) → Holding c first [] front
-holding_empty c first front none = record { live = tt; rising = omega arith; none = λ q _. none q }
-
--- The next call holds nothing yet.
 pub holding_unused : (c next : ℕ) (frames : List Frame) (front : List Entry) → Holding c next frames front → stands c next front ≡ []
 holding_unused c next frames front h = h.none next (rise_none 0 (numbers frames) next h.rising)
 
@@ -112,7 +102,8 @@ holding_refused c next frames old new h none others p =
     record { live = same.live; rising = rise_more 0 (numbers frames) next (next + 1) (omega arith) same.rising; none = same.none }
 
 -- A call that entered holds its frame's keys.
-pub holding_entered : (c next : ℕ) (frames : List Frame) (f : Frame) (old new : List Entry) → Holding c next frames old → f.q.0 ≡ next → Holds c f.q.0 f.held.items new → HasCall c f.q.0 new → OthersStay c next old new → IsPrefix old new → Holding c (next + 1) (frames ++ f ∷ []) new
+pub holding_entered : (c next : ℕ) (frames : List Frame) (f : Frame) (old new : List Entry) → Holding c next frames old → f.q.0 ≡ next → Holds c f.q.0 f.held.items new → HasCall c f.q.0 new
+    → OthersStay c next old new → IsPrefix old new → Holding c (next + 1) (frames ++ f ∷ []) new
 holding_entered c next frames f old new h is holds called others p = record {
   live = each_append (IsLive c new) frames (f ∷ []) (all_live c next old new frames p others (rise_none 0 (numbers frames) next h.rising) h.live) (record { holds = holds; called = called }, tt);
   rising = subst (λ qs. Rise 0 qs (next + 1)) (ap (λ n. numbers frames ++ n ∷ []) (sym is) ∙ sym (numbers_push frames f)) (rise_push 0 (numbers frames) next h.rising);
@@ -122,7 +113,8 @@ holding_entered c next frames f old new h is holds called others p = record {
 }
 
 -- The same of a frame as `enter` gives it.
-pub holding_framed : (c : ℕ) (q : CallNo) (frames : List Frame) (f : Frame) (way : By) (old new : List Entry) → Holding c q.0 frames old → IsFramed c q new (entered.Frame f way) → OthersStay c q.0 old new → IsPrefix old new → Holding c (q.0 + 1) (frames ++ f ∷ []) new
+pub holding_framed : (c : ℕ) (q : CallNo) (frames : List Frame) (f : Frame) (way : By) (old new : List Entry) → Holding c q.0 frames old → IsFramed c q new (entered.Frame f way)
+    → OthersStay c q.0 old new → IsPrefix old new → Holding c (q.0 + 1) (frames ++ f ∷ []) new
 holding_framed c q frames f way old new h (is, holds, called) others p =
     holding_entered c q.0 frames f old new h (ap (λ (n : CallNo). n.0) is)
     (subst (λ (n : CallNo). Holds c n.0 f.held.items new) (sym is) holds)
@@ -139,7 +131,8 @@ pub holding_last : (c next : ℕ) (frames : List Frame) (f : Frame) (front : Lis
 holding_last c next frames f front h = each_last (IsLive c front) frames f h.live
 
 -- Once the frame on top has left, its call holds nothing.
-pub holding_left : (c next : ℕ) (frames : List Frame) (f : Frame) (old new : List Entry) → Holding c next (frames ++ f ∷ []) old → stands c f.q.0 new ≡ [] → OthersStay c f.q.0 old new → IsPrefix old new → Holding c next frames new
+pub holding_left : (c next : ℕ) (frames : List Frame) (f : Frame) (old new : List Entry) → Holding c next (frames ++ f ∷ []) old → stands c f.q.0 new ≡ [] → OthersStay c f.q.0 old new
+    → IsPrefix old new → Holding c next frames new
 holding_left c next frames f old new h none others p =
     let rise : Rise 0 (numbers frames ++ f.q.0 ∷ []) next = subst (λ qs. Rise 0 qs next) (numbers_push frames f) h.rising in
     let below : Rise 0 (numbers frames) f.q.0 = rise_pop 0 (numbers frames) f.q.0 next rise in
@@ -159,15 +152,6 @@ holding_apart c next frames old new h same p = record {
   none = λ q out. same q ∙ h.none q out;
 }
 
--- So does one act of the caller that no call has a part in.
-pub holding_act : (c next : ℕ) (frames : List Frame) (old new : List Entry) (a : Act) → Holding c next frames old → acts c new ≡ acts c old ++ a ∷ [] → ((q : ℕ) → has_part q a ≡ false) → IsPrefix old new → Holding c next frames new
-holding_act c next frames old new a h grows none p = holding_apart c next frames old new h (λ q. ap (standing q) grows ∙ standing_stays q (acts c old) a (none q)) p
-
--- So does what others do.
-pub holding_waits : (c next : ℕ) (frames : List Frame) (old new : List Entry) → Holding c next frames old → acts c new ≡ acts c old → IsPrefix old new → Holding c next frames new
-holding_waits c next frames old new h same p = holding_apart c next frames old new h (λ q. ap (standing q) same) p
-
--- With no frames nothing is held.
 pub holding_end : (c next : ℕ) (front : List Entry) → Holding c next [] front → (q : ℕ) → stands c q front ≡ []
 holding_end c next front h q = h.none q tt
 

@@ -3,14 +3,12 @@ use Rattle.std.proofs.Common.{◌≡◌, ℕ, zero, suc, List, [], ◌∷◌, �
 use Rattle.std.specs.Prelude.{ℤ, ◌+ℤ◌, ◌-ℤ◌, ◌*ℤ◌, int_lt, Result, Ok, Err, if◌then◌else◌, nat_le}
 use Rattle.std.specs.List.{AllByRecursion}
 use Rattle.std.proofs.lemmas.List.{take-append-drop}
-use Rattle.hb_tree.specs.declared.limits.TheConstants.{TEXT_BYTES_MAX}
-use Rattle.hb_tree.specs.declared.node.Op.{Op}
+use Rattle.hb_tree.specs.declared.{limits.TheConstants.TEXT_BYTES_MAX, node.Op.Op}
 use Rattle.hb_tree.specs.declared.node.Op.TheVariants as op
 use Rattle.hb_tree.specs.Table.{Table}
 use Rattle.hb_tree.proofs.Lists.{each_append}
-use Rattle.hb_eval.specs.declared.value.Value.{Value}
+use Rattle.hb_eval.specs.declared.{value.Value.Value, stop.Stop.Stop}
 use Rattle.hb_eval.specs.declared.value.Value.TheVariants as value
-use Rattle.hb_eval.specs.declared.stop.Stop.{Stop}
 use Rattle.hb_eval.specs.declared.stop.Stop.TheVariants as stop
 use Rattle.hb_eval.specs.Values.{IsKnown}
 use Rattle.hb_eval.specs.Operators.{is_int, int_of, text_of, of_ints, of_texts, operate}
@@ -19,65 +17,9 @@ use Rattle.hb_eval.specs.State.{Bindings, value_at, bind}
 pub pushed_known : (t : Table) (xs : List Value) (v : Value) → AllByRecursion (IsKnown t) xs → IsKnown t v → AllByRecursion (IsKnown t) (xs ++ v ∷ [])
 pushed_known t xs v all known = each_append (IsKnown t) xs (v ∷ []) all (known, tt)
 
-pub popped_known : (t : Table) (xs ys : List Value) (v : Value) → ys ≡ xs ++ v ∷ [] → AllByRecursion (IsKnown t) ys → AllByRecursion (IsKnown t) xs
-popped_known t xs ys v e all = front xs (subst (AllByRecursion (IsKnown t)) e all)
-  where
-    front : (xs : List Value) → AllByRecursion (IsKnown t) (xs ++ v ∷ []) → AllByRecursion (IsKnown t) xs
-    front [] all = tt
-    front (x ∷ xs) all = (all.0, front xs all.1)
-
--- a value that comes is known
 abbrev Comes : Table → Result Value Stop → Type 0
 Comes t (Ok v) = IsKnown t v
 Comes t (Err e) = Unit {0}
-
-int_comes : (t : Table) (n : ℤ) → Comes t (int_of n)
-int_comes t n = go (is_int n)
-  where
-    go : (b : Bool) → Comes t (if b then Ok (value.Int n) else Err stop.Overflow)
-    go true = tt
-    go false = tt
-
-text_comes : (t : Table) (bytes : List ℕ) → Comes t (text_of bytes)
-text_comes t bytes = go (nat_le (length bytes) TEXT_BYTES_MAX)
-  where
-    go : (b : Bool) → Comes t (if b then Ok (value.Str bytes) else Err stop.LongText)
-    go true = tt
-    go false = tt
-
-ints_come : (t : Table) (f : ℤ → ℤ → Result Value Stop) → ((x y : ℤ) → Comes t (f x y)) → (a b : Value) → Comes t (of_ints f a b)
-ints_come t f h (value.Int x) (value.Int y) = h x y
-ints_come t f h value.Nil b = tt
-ints_come t f h (value.Bool x) b = tt
-ints_come t f h (value.Str x) b = tt
-ints_come t f h (value.Object x) b = tt
-ints_come t f h (value.Int x) value.Nil = tt
-ints_come t f h (value.Int x) (value.Bool y) = tt
-ints_come t f h (value.Int x) (value.Str y) = tt
-ints_come t f h (value.Int x) (value.Object y) = tt
-
-texts_come : (t : Table) (f : List ℕ → List ℕ → Result Value Stop) → ((x y : List ℕ) → Comes t (f x y)) → (a b : Value) → Comes t (of_texts f a b)
-texts_come t f h (value.Str x) (value.Str y) = h x y
-texts_come t f h value.Nil b = tt
-texts_come t f h (value.Bool x) b = tt
-texts_come t f h (value.Int x) b = tt
-texts_come t f h (value.Object x) b = tt
-texts_come t f h (value.Str x) value.Nil = tt
-texts_come t f h (value.Str x) (value.Bool y) = tt
-texts_come t f h (value.Str x) (value.Int y) = tt
-texts_come t f h (value.Str x) (value.Object y) = tt
-
-operates : (t : Table) (o : Op) (a b : Value) → Comes t (operate o a b)
-operates t op.Add a b = ints_come t (λ x y. int_of (x +ℤ y)) (λ x y. int_comes t (x +ℤ y)) a b
-operates t op.Sub a b = ints_come t (λ x y. int_of (x -ℤ y)) (λ x y. int_comes t (x -ℤ y)) a b
-operates t op.Mul a b = ints_come t (λ x y. int_of (x *ℤ y)) (λ x y. int_comes t (x *ℤ y)) a b
-operates t op.Less a b = ints_come t (λ x y. Ok (value.Bool (int_lt x y))) (λ x y. tt) a b
-operates t op.Concat a b = texts_come t (λ x y. text_of (x ++ y)) (λ x y. text_comes t (x ++ y)) a b
-operates t op.Equal a b = tt
-
--- what an operator gives is known
-pub operated_known : (t : Table) (o : Op) (a b v : Value) → operate o a b ≡ Ok v → IsKnown t v
-operated_known t o a b v e = subst (Comes t) e (operates t o a b)
 
 bind_known : (t : Table) (bs : Bindings) (x : ℕ) (v : Value) → AllByRecursion (λ b. IsKnown t b.1) bs → IsKnown t v → AllByRecursion (λ b. IsKnown t b.1) (bind bs x v)
 bind_known t [] x v all known = (known, tt)

@@ -1,25 +1,17 @@
 -- What a move does to a machine.
 use Rattle.std.proofs.Common.{◌≡◌, ℕ, ◌+◌, ◌<◌, List, Option, Some, None, Ok, Err, refl, sym, ap, ◌∙◌, arith}
-use Rattle.std.specs.Prelude.{Result, OnOk}
-use Rattle.std.specs.List.{AllByRecursion}
+use Rattle.std.specs.{Prelude.Result, Prelude.OnOk, List.AllByRecursion}
 use Rattle.hb_tree.specs.Table.{Table}
 use Rattle.hb_names.specs.Names.{Name}
 use Rattle.hb_tables.specs.declared.entry.Act.{Act}
-use Rattle.hb_eval.specs.declared.cont.Cont.{Cont}
-use Rattle.hb_eval.specs.declared.framed.Framed.{Framed}
-use Rattle.hb_eval.specs.declared.state.State.{State}
-use Rattle.hb_eval.specs.declared.state.Hand.{Hand}
+use Rattle.hb_eval.specs.declared.{cont.Cont.Cont, framed.Framed.Framed, state.State.State, state.Hand.Hand, state.Move.Move}
 use Rattle.hb_eval.specs.declared.state.Hand.TheVariants as hands
-use Rattle.hb_eval.specs.declared.state.Move.{Move}
-use Rattle.hb_eval.specs.Calls.{call_in}
+use Rattle.hb_eval.specs.{Calls.call_in, Ends.Lowers, Machines.sum_over, Machines.weigh}
 use Rattle.hb_eval.specs.Machine.{Frames, need, frames_in, stands}
 use Rattle.hb_eval.specs.Steps.{onto, need_of, InEach, Moves, IsFine, IsFinePush, IsLight, weigh_one, weigh_push}
 use Rattle.hb_eval.specs.Stacks.{frames_at, ended_of, calls_in, calls_of}
-use Rattle.hb_eval.specs.Ends.{Lowers}
 use Rattle.hb_eval.specs.Turns.{Goes, after, stands_at, world}
-use Rattle.hb_eval.specs.Machines.{sum_over, weigh}
-use Rattle.hb_eval.proofs.CallFuelLemmas.{calls_keep}
-use Rattle.hb_eval.proofs.TurnLemmas.{frames_stay}
+use Rattle.hb_eval.proofs.{CallFuelLemmas.calls_keep, TurnLemmas.frames_stay}
 
 -- a move that reads nothing, behind what is to be done or at a beginning
 pub moves_same : (t : Table) (front : Option Cont) (before : Hand) (frames : List Framed) (old new : State) (m : Move) → InEach t (Moves front before old new m)
@@ -51,13 +43,16 @@ pub fine_move : (t : Table) (m : Move) (ks : List Cont) → IsFinePush t m.push 
 fine_move t m ks push under all = fine_onto t m.push (onto m.under ks) push (fine_onto t m.under ks under all)
 
 -- a turn that leaves less to do
-pub falls_by : (hand : Hand) (k : Cont) (push under : Option Cont) (ks : List Cont) → IsLight hand push → weigh_push under < weigh_one k → weigh hand (onto push (onto under ks)) < 1 + (weigh_one k + sum_over weigh_one ks)
+pub falls_by : (hand : Hand) (k : Cont) (push under : Option Cont) (ks : List Cont) → IsLight hand push → weigh_push under < weigh_one k
+    → weigh hand (onto push (onto under ks)) < 1 + (weigh_one k + sum_over weigh_one ks)
 falls_by hands.Begins k push under ks light h = omega arith
 falls_by hands.Gives k push under ks light h =
-    let e : sum_over weigh_one (onto push (onto under ks)) ≡ weigh_push under + sum_over weigh_one ks = ap (λ p. sum_over weigh_one (onto p (onto under ks))) light ∙ onto_sum weigh_one weigh_push refl (λ k. refl) under ks in
+    let e : sum_over weigh_one (onto push (onto under ks)) ≡ weigh_push under + sum_over weigh_one ks = ap (λ p. sum_over weigh_one (onto p (onto under ks))) light
+         ∙ onto_sum weigh_one weigh_push refl (λ k. refl) under ks in
     omega (arith, e, h)
 falls_by hands.Stops k push under ks light h =
-    let e : sum_over weigh_one (onto push (onto under ks)) ≡ weigh_push under + sum_over weigh_one ks = ap (λ p. sum_over weigh_one (onto p (onto under ks))) light ∙ onto_sum weigh_one weigh_push refl (λ k. refl) under ks in
+    let e : sum_over weigh_one (onto push (onto under ks)) ≡ weigh_push under + sum_over weigh_one ks = ap (λ p. sum_over weigh_one (onto p (onto under ks))) light
+         ∙ onto_sum weigh_one weigh_push refl (λ k. refl) under ks in
     omega (arith, e, h)
 
 -- a stop passes as a move would

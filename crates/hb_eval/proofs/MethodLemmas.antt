@@ -7,19 +7,14 @@ use Rattle.hb_cache.specs.declared.kept.Kept.{Kept}
 use Rattle.hb_names.specs.declared.names.TheConstants.{NAMES_MAX}
 use Rattle.hb_names.specs.Names.{Name, place, IsFull}
 use Rattle.hb_names.proofs.NameLemmas.{place-append}
-use Rattle.hb_tables.specs.declared.entry.Entry.{Entry}
-use Rattle.hb_tables.specs.declared.entry.Act.{Act}
+use Rattle.hb_tables.specs.declared.{entry.Entry.Entry, entry.Act.Act}
 use Rattle.hb_tables.specs.Frames.{acts}
 use Rattle.hb_eval.specs.declared.state.Hand.TheVariants as hands
-use Rattle.hb_eval.specs.declared.value.Value.{Value}
-use Rattle.hb_eval.specs.declared.stop.Stop.{Stop}
+use Rattle.hb_eval.specs.declared.{value.Value.Value, stop.Stop.Stop, state.State.State, state.Move.Move}
 use Rattle.hb_eval.specs.declared.stop.Stop.TheVariants as stop
-use Rattle.hb_eval.specs.declared.state.State.{State}
-use Rattle.hb_eval.specs.declared.state.Move.{Move}
 use Rattle.hb_eval.specs.State.{Answer, St, Lost, Halt, reads}
-use Rattle.hb_eval.specs.Methods.{with_key, keyed}
+use Rattle.hb_eval.specs.{Methods.with_key, Methods.keyed, Tables.Adds, Tables.ActsOn}
 use Rattle.hb_eval.specs.Machine.{World, resume, st_of}
-use Rattle.hb_eval.specs.Tables.{Adds, ActsOn}
 use Rattle.hb_eval.proofs.TableLemmas.{reads_act}
 
 stays : (known names : List Name) (name : Name) (key : ℕ) → IsPrefix known names → place known name ≡ Some key → place names name ≡ Some key
@@ -82,5 +77,6 @@ full known c was now id name asked old new move is none after mv =
     })
 
 -- what is kept plays no part in what acts come to
-pub acts_kept : (known : List Name) (c : ℕ) (was now : List Entry) (before : World → St → Answer) (old new : State) (cache : List (Option Kept)) (move : Move) → ActsOn known c was now before (record old { cache = cache }) new move → ActsOn known c was now before old new move
+pub acts_kept : (known : List Name) (c : ℕ) (was now : List Entry) (before : World → St → Answer) (old new : State) (cache : List (Option Kept)) (move : Move)
+    → ActsOn known c was now before (record old { cache = cache }) new move → ActsOn known c was now before old new move
 acts_kept known c was now before old new cache move a = record { more = a.more; grows = a.grows; apart = a.apart; same = a.same }

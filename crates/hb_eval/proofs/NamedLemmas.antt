@@ -2,34 +2,21 @@
 use Rattle.std.proofs.Common.{◌≡◌, ◌<◌, ℕ, List, [], length, Option, Some, None, refl, sym, ap, ◌∙◌, ◌++◌, append-nil}
 use Rattle.std.specs.Prelude.{reverse, slice_get, IsSomeAnd, Bool, Result, IfOk}
 use Rattle.std.specs.declared.alloc.AllocError.{AllocError}
-use Rattle.std.proofs.lemmas.Result.{IfOk-weaker}
-use Rattle.std.proofs.lemmas.Option.{slice_get_within}
-use Rattle.hb_types.specs.declared.ids.NodeId.{NodeId}
-use Rattle.hb_types.specs.declared.ids.ClassId.{ClassId}
-use Rattle.hb_types.specs.declared.ids.NameId.{NameId}
-use Rattle.hb_types.specs.declared.ids.BodySite.{BodySite}
-use Rattle.hb_types.specs.declared.ids.TypeSite.{TypeSite}
+use Rattle.std.proofs.{lemmas.Result.IfOk-weaker, lemmas.Option.slice_get_within}
+use Rattle.hb_types.specs.declared.{ids.NodeId.NodeId, ids.ClassId.ClassId, ids.NameId.NameId, ids.BodySite.BodySite, ids.TypeSite.TypeSite}
 use Rattle.hb_tree.specs.declared.node.Node.TheVariants as node
 use Rattle.hb_tree.specs.declared.node.Method.{Method}
 use Rattle.hb_tree.specs.declared.node.Method.TheVariants as method
-use Rattle.hb_tree.specs.Canon.{bytes_at}
+use Rattle.hb_tree.specs.{Canon.bytes_at, TreeAt.tree_at, TreeAt.tree_of, Table.Table}
 use Rattle.hb_tree.specs.Tree.{Tree, TDefComputed, TDeclareComputed, id_of}
-use Rattle.hb_tree.specs.TreeAt.{tree_at, tree_of}
 use Rattle.hb_names.specs.Names.{Name}
 use Rattle.hb_tables.specs.declared.entry.Entry.{Entry}
 use Rattle.hb_tables.specs.Frames.{acts}
-use Rattle.hb_tree.specs.Table.{Table}
 use Rattle.hb_eval.specs.declared.state.Hand.TheVariants as hands
-use Rattle.hb_eval.specs.declared.value.Value.{Value}
-use Rattle.hb_eval.specs.declared.stop.Stop.{Stop}
-use Rattle.hb_eval.specs.declared.state.State.{State}
-use Rattle.hb_eval.specs.declared.state.Move.{Move}
+use Rattle.hb_eval.specs.declared.{value.Value.Value, stop.Stop.Stop, state.State.State, state.Move.Move}
 use Rattle.hb_eval.specs.State.{St, Answer, Halt}
-use Rattle.hb_eval.specs.Methods.{define, declare}
+use Rattle.hb_eval.specs.{Methods.define, Methods.declare, Steps.IsComputed, Steps.Keeps, Tables.ActsOn, Naming.StopsNamed}
 use Rattle.hb_eval.specs.Machine.{World, resume, st_of, method_named}
-use Rattle.hb_eval.specs.Steps.{IsComputed, Keeps}
-use Rattle.hb_eval.specs.Tables.{ActsOn}
-use Rattle.hb_eval.specs.Naming.{StopsNamed}
 
 -- what keeps does so from a state with the same operands and variables
 pub keeps_from : (t : Table) (old mid new : State) (move : Move) → mid.operands ≡ old.operands → mid.vars ≡ old.vars → mid.base ≡ old.base → Keeps t None mid new move → Keeps t None old new move
@@ -57,7 +44,8 @@ acts_same known c was now told telling old new move is a = record {
 }
 
 -- a `def` with a plain name
-pub defined_on : (known : List Name) (c : ℕ) (was now : List Entry) (t : Table) (id : ℕ) (m : Method) (class : ClassId) (name : NameId) (site at : BodySite) (bytes : List ℕ) (v : Value) (old new : State) (r : Result Move AllocError)
+pub defined_on : (known : List Name) (c : ℕ) (was now : List Entry) (t : Table) (id : ℕ) (m : Method) (class : ClassId) (name : NameId) (site at : BodySite) (bytes : List ℕ) (v : Value)
+    (old new : State) (r : Result Move AllocError)
     → tree_at t id ≡ tree_of t (tree_at t) id (node.Def m site) → m ≡ method.Named class name → bytes_at t.names name.0 ≡ bytes → at ≡ site
     → IfOk r (ActsOn known c was now (λ w s. define w.names id (class.0, bytes) at.0 s) old new) → IfOk r (ActsOn known c was now (λ w s. method_named (record w { program = t }) (tree_at t id) v s) old new)
 defined_on known c was now t id m class name site at bytes v old new r tree plain named same acts =
@@ -67,7 +55,8 @@ defined_on known c was now t id m class name site at bytes v old new r tree plai
     ∙ ap (λ n. define w.names id (class.0, bytes) n.0 s) (sym same)) a) acts
 
 -- a `type` with a plain name
-pub declared_on : (known : List Name) (c : ℕ) (was now : List Entry) (t : Table) (id : ℕ) (m : Method) (class : ClassId) (name : NameId) (site at : TypeSite) (asks : Bool) (bytes : List ℕ) (v : Value) (old new : State) (r : Result Move AllocError)
+pub declared_on : (known : List Name) (c : ℕ) (was now : List Entry) (t : Table) (id : ℕ) (m : Method) (class : ClassId) (name : NameId) (site at : TypeSite) (asks : Bool) (bytes : List ℕ)
+    (v : Value) (old new : State) (r : Result Move AllocError)
     → tree_at t id ≡ tree_of t (tree_at t) id (node.Declare m site asks) → m ≡ method.Named class name → bytes_at t.names name.0 ≡ bytes → at ≡ site
     → IfOk r (ActsOn known c was now (λ w s. declare w.names id asks (class.0, bytes) at.0 s) old new) → IfOk r (ActsOn known c was now (λ w s. method_named (record w { program = t }) (tree_at t id) v s) old new)
 declared_on known c was now t id m class name site at asks bytes v old new r tree plain named same acts =

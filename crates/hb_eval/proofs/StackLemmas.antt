@@ -3,10 +3,8 @@ use Rattle.std.proofs.Common.{◌≡◌, ℕ, suc, ◌+◌, ◌-◌, List, [], �
 use Rattle.std.specs.Prelude.{reverse}
 use Rattle.std.proofs.lemmas.List.{reverse-append, reverse-reverse, take-append-drop, length-drop, length-reverse}
 use Rattle.std.proofs.Math.Seq.{drop-append_seam, take-append_seam, take-length, drop-cons}
-use Rattle.hb_eval.specs.declared.framed.Framed.{Framed}
-use Rattle.hb_eval.specs.declared.state.State.{State}
-use Rattle.hb_eval.specs.State.{Bindings}
-use Rattle.hb_eval.specs.Stacks.{views, frames_at}
+use Rattle.hb_eval.specs.declared.{framed.Framed.Framed, state.State.State}
+use Rattle.hb_eval.specs.{State.Bindings, Stacks.views, Stacks.frames_at}
 
 -- what was pushed comes first
 pub pushed_first : {A : Type 0} (xs : List A) (x : A) → reverse (xs ++ x ∷ []) ≡ x ∷ reverse xs
@@ -30,10 +28,6 @@ reverse_take xs m n e =
     let b = drop m xs in
     let len : length (reverse b) ≡ n = omega (arith, length-reverse b, length-drop m xs) in
     ap reverse (ap (take n) (ap reverse (sym (take-append-drop m xs)) ∙ reverse-append a b) ∙ ap (λ k. take k (reverse b ++ reverse a)) (sym len) ∙ take-append_seam (reverse b) (reverse a)) ∙ reverse-reverse b
-
--- the last n, the first of them apart
-pub last_ones : {A : Type 0} (xs : List A) (at n : ℕ) (d : A) → at + suc n ≡ length xs → reverse (take (suc n) (reverse xs)) ≡ get_or xs at d ∷ drop (suc at) xs
-last_ones xs at n d e = reverse_take xs at (suc n) e ∙ drop-cons xs at d (omega arith)
 
 views_length : (fs : List Framed) (vs : Bindings) → length (views fs vs) ≡ length fs
 views_length [] vs = refl

@@ -3,8 +3,7 @@ use Rattle.std.proofs.Common.{◌≡◌, List, [], refl, ◌∙◌, subst, appen
 use mathlib.Core.List.{IsPrefix}
 use Rattle.hb_names.specs.Names.{Name}
 use Rattle.hb_tables.specs.declared.entry.Entry.{Entry}
-use Rattle.hb_tables.specs.Answers.{Fixed}
-use Rattle.hb_tables.specs.History.{IsLegal}
+use Rattle.hb_tables.specs.{Answers.Fixed, History.IsLegal}
 use Rattle.hb_eval.specs.Staying.{Stays}
 use Rattle.hb_eval.proofs.TurnLemmas.{prefix_on}
 

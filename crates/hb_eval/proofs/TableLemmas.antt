@@ -1,22 +1,15 @@
 -- An act that comes to a caller's journal, and what reading it gives.
 use Rattle.std.proofs.Common.{◌≡◌, ℕ, List, [], ◌∷◌, ◌++◌, Option, Some, Bool, true, refl, ap, ◌∙◌, nat_eq, eq-eqb}
 use Rattle.std.specs.Prelude.{Result, Ok, Err, cond}
-use Rattle.hb_types.specs.declared.ids.KeyId.{KeyId}
-use Rattle.hb_types.specs.declared.ids.BodySite.{BodySite}
-use Rattle.hb_types.specs.declared.ids.TypeSite.{TypeSite}
-use Rattle.hb_tables.specs.declared.entry.Entry.{Entry}
-use Rattle.hb_tables.specs.declared.entry.Act.{Act}
+use Rattle.hb_types.specs.declared.{ids.KeyId.KeyId, ids.BodySite.BodySite, ids.TypeSite.TypeSite}
+use Rattle.hb_tables.specs.declared.{entry.Entry.Entry, entry.Act.Act}
 use Rattle.hb_tables.specs.declared.entry.Act.TheVariants as act
 use Rattle.hb_tables.specs.declared.desk.DefAnswer.TheVariants as defined
 use Rattle.hb_tables.specs.declared.desk.TypeAnswer.TheVariants as typed
-use Rattle.hb_tables.specs.History.{entry, Adds as AddsEntry}
-use Rattle.hb_tables.specs.Answers.{DefAdds, TypeAdds}
-use Rattle.hb_tables.specs.Frames.{acts}
-use Rattle.hb_tables.proofs.FrameLemmas.{acts_append}
-use Rattle.hb_tables.proofs.DeskLemmas.{learns_acts}
-use Rattle.hb_eval.specs.declared.value.Value.{Value}
+use Rattle.hb_tables.specs.{History.entry, History.Adds as AddsEntry, Answers.DefAdds, Answers.TypeAdds, Frames.acts}
+use Rattle.hb_tables.proofs.{FrameLemmas.acts_append, DeskLemmas.learns_acts}
+use Rattle.hb_eval.specs.declared.{value.Value.Value, stop.Stop.Stop}
 use Rattle.hb_eval.specs.declared.value.Value.TheVariants as value
-use Rattle.hb_eval.specs.declared.stop.Stop.{Stop}
 use Rattle.hb_eval.specs.declared.stop.Stop.TheVariants as stop
 use Rattle.hb_eval.specs.State.{St, gives, reads, read_act, meant, next_act}
 use Rattle.hb_eval.specs.Methods.{define_meaning, declare_meaning, changed, unchanged}

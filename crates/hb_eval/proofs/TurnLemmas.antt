@@ -5,17 +5,11 @@ use Rattle.std.proofs.lemmas.List.Sums.{sum_by-append}
 use Rattle.hb_tables.specs.declared.entry.By.TheVariants as by
 use mathlib.Core.List.{IsPrefix}
 use Rattle.hb_names.specs.Names.{Name}
-use Rattle.hb_tables.specs.declared.entry.Entry.{Entry}
-use Rattle.hb_tables.specs.declared.entry.Act.{Act}
+use Rattle.hb_tables.specs.declared.{entry.Entry.Entry, entry.Act.Act}
 use Rattle.hb_tables.specs.Frames.{acts}
-use Rattle.hb_eval.specs.declared.cont.Cont.{Cont}
-use Rattle.hb_eval.specs.declared.framed.Framed.{Framed}
-use Rattle.hb_eval.specs.declared.state.State.{State}
-use Rattle.hb_eval.specs.State.{tagged}
-use Rattle.hb_eval.specs.Stacks.{views, frames_at}
-use Rattle.hb_eval.specs.Steps.{SameCalls}
+use Rattle.hb_eval.specs.declared.{cont.Cont.Cont, framed.Framed.Framed, state.State.State}
+use Rattle.hb_eval.specs.{State.tagged, Stacks.views, Stacks.frames_at, Steps.SameCalls, Runs.is_call, Runs.is_entered}
 use Rattle.hb_eval.specs.Turns.{Telling, Tallies, Reads}
-use Rattle.hb_eval.specs.Runs.{is_call, is_entered}
 
 pub tagged_append : (n : ℕ) (a b : List Act) → tagged n (a ++ b) ≡ tagged n a ++ tagged n b
 tagged_append n [] b = refl

@@ -50,7 +50,8 @@ not_in_above b i ps x p le h lt e ne =
     let m : (i - b) + 1 ≡ i + 1 - b = omega arith in
     subst (λ k. NotIn k (drop b ps) x) m (not_in_read (i - b) (drop b ps) x p h (omega (arith, length-drop b ps)) read ne)
 
-pub set_above : (b i : ℕ) (ps : Bindings) (x : ℕ) (v : Value) (p : NameId × Value) → b ≤ i → NotIn (i - b) (drop b ps) x → i < length ps → p ≡ get_or ps i p → p.0.0 ≡ x → drop b (set ps i (record { 0 = x }, v)) ≡ bind (drop b ps) x v
+pub set_above : (b i : ℕ) (ps : Bindings) (x : ℕ) (v : Value) (p : NameId × Value) → b ≤ i → NotIn (i - b) (drop b ps) x → i < length ps → p ≡ get_or ps i p → p.0.0 ≡ x
+    → drop b (set ps i (record { 0 = x }, v)) ≡ bind (drop b ps) x v
 set_above b i ps x v p le h lt e eq =
     let read : p ≡ get_or (drop b ps) (i - b) p = e ∙ ap (λ k. get_or ps k p) (sym (above b i le)) ∙ sym (get_or-drop b ps (i - b) p) in
     ap (λ k. drop b (set ps k (record { 0 = x }, v))) (sym (above b i le)) ∙ drop-set-add b ps (i - b) (record { 0 = x }, v) ∙ set_read (i - b) (drop b ps) x v p h (omega (arith, length-drop b ps)) read eq

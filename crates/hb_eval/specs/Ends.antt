@@ -4,13 +4,9 @@ use Rattle.hb_tree.specs.Table.{Table}
 use Rattle.hb_tables.specs.declared.entry.Entry.{Entry}
 use Rattle.hb_tables.specs.Frames.{acts}
 use Rattle.hb_call.specs.Held.{frees}
-use Rattle.hb_eval.specs.declared.cont.Cont.{Cont}
-use Rattle.hb_eval.specs.declared.framed.Framed.{Framed}
-use Rattle.hb_eval.specs.declared.state.State.{State}
+use Rattle.hb_eval.specs.declared.{cont.Cont.Cont, framed.Framed.Framed, state.State.State}
 use Rattle.hb_eval.specs.declared.state.Hand.TheVariants as hands
-use Rattle.hb_eval.specs.Steps.{Steady}
-use Rattle.hb_eval.specs.Stacks.{IsBased, AllKnown}
-use Rattle.hb_eval.specs.Turns.{Telling, stands_at}
+use Rattle.hb_eval.specs.{Steps.Steady, Stacks.IsBased, Stacks.AllKnown, Turns.Telling, Turns.stands_at}
 
 -- The frame on top ends: its call gives its keys back, and the caller's variables and class are there again.
 pub record Leaves (c : ℕ) (was now : List Entry) (old_frames : List Framed) (old : State) (new_frames : List Framed) (new : State) : Type 0 where

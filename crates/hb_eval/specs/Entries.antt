@@ -4,20 +4,14 @@ use Rattle.hb_names.specs.Names.{Name, place, with_name, IsFull}
 use Rattle.hb_types.specs.declared.ids.ClassId.{ClassId}
 use Rattle.hb_tree.specs.declared.parts.Body.{Body}
 use Rattle.hb_tree.specs.Nodes.{params_of}
-use Rattle.hb_tables.specs.declared.entry.By.{By}
+use Rattle.hb_tables.specs.declared.{entry.By.By, entry.Verdict.Verdict}
 use Rattle.hb_tables.specs.declared.entry.By.TheVariants as by
-use Rattle.hb_tables.specs.declared.entry.Verdict.{Verdict}
 use Rattle.hb_tables.specs.declared.entry.Verdict.TheVariants as verdict
 use Rattle.hb_call.specs.declared.frame.Frame.{Frame}
-use Rattle.hb_eval.specs.declared.state.State.{State}
-use Rattle.hb_eval.specs.declared.value.Value.{Value}
-use Rattle.hb_eval.specs.declared.stop.Stop.{Stop}
+use Rattle.hb_eval.specs.declared.{state.State.State, value.Value.Value, stop.Stop.Stop}
 use Rattle.hb_eval.specs.declared.stop.Stop.TheVariants as stop
 use Rattle.hb_eval.specs.State.{St, Answer, Lost}
-use Rattle.hb_eval.specs.Calls.{bindings, leave}
-use Rattle.hb_eval.specs.Runs.{same_way}
-use Rattle.hb_eval.specs.Machine.{World, meaning}
-use Rattle.hb_eval.specs.Stacks.{holds_of}
+use Rattle.hb_eval.specs.{Calls.bindings, Calls.leave, Runs.same_way, Machine.World, Machine.meaning, Stacks.holds_of}
 
 -- a call whose receiver and arguments these are
 abbrev pub calling : World → (room id m : ℕ) → List Value → St → Answer

@@ -3,22 +3,15 @@
 -- Contracts see each stack with its last first, and a live frame as what it does with the answer of its body.
 use Rattle.std.specs.Prelude.{ℕ, zero, suc, ◌+◌, ◌-◌, List, [], ◌∷◌, ◌++◌, length, take, drop, reverse}
 use Rattle.hb_tree.specs.declared.node.Op.{Op}
-use Rattle.hb_tree.specs.Table.{Table}
-use Rattle.hb_tree.specs.TreeAt.{tree_at}
-use Rattle.hb_tree.specs.Canon.{bytes_at}
+use Rattle.hb_tree.specs.{Table.Table, TreeAt.tree_at, Canon.bytes_at}
 use Rattle.hb_tree.specs.Tree.{Tree, TCall, TDef, TDefComputed, TDeclare, TDeclareComputed, TBlock, Forest, NoTree, Trees}
 use Rattle.hb_names.specs.Names.{Name}
 use Rattle.hb_tables.specs.declared.entry.Act.{Act}
-use Rattle.hb_eval.specs.declared.value.Value.{Value}
+use Rattle.hb_eval.specs.declared.{value.Value.Value, cont.Cont.Cont, state.State.State, state.Hand.Hand}
 use Rattle.hb_eval.specs.declared.value.Value.TheVariants as value
-use Rattle.hb_eval.specs.declared.cont.Cont.{Cont}
 use Rattle.hb_eval.specs.declared.cont.Cont.TheVariants as cont
-use Rattle.hb_eval.specs.declared.state.State.{State}
-use Rattle.hb_eval.specs.declared.state.Hand.{Hand}
 use Rattle.hb_eval.specs.declared.state.Hand.TheVariants as hands
-use Rattle.hb_eval.specs.Values.{is_false}
-use Rattle.hb_eval.specs.Printing.{shown}
-use Rattle.hb_eval.specs.Operators.{operate}
+use Rattle.hb_eval.specs.{Values.is_false, Printing.shown, Operators.operate}
 use Rattle.hb_eval.specs.State.{St, Answer, Lost, Done, Halt, then_do, gives, bind}
 use Rattle.hb_eval.specs.Methods.{named, define, declare}
 use Rattle.hb_eval.specs.Meaning.{Calls, ev, ev_items, ev_arguments, printed, choose, loop}

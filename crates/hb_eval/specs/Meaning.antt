@@ -1,17 +1,14 @@
 -- What a program does: what each of its expressions comes to, as a function over trees.
 use Rattle.std.specs.Prelude.{ℕ, zero, suc, ◌∷◌, ◌++◌, List, [], length, Option, Some, None, true, false, nat_le, if◌then◌else◌}
 use Rattle.hb_types.specs.declared.ids.ClassId.{ClassId}
-use Rattle.hb_tree.specs.Table.{Table}
-use Rattle.hb_tree.specs.Canon.{bytes_at}
-use Rattle.hb_tree.specs.Tree.{Tree, TNil, TTrue, TFalse, TSelf, TInt, TText, TVar, TNew, TAssign, TPrint, TToStr, TNot, TBinary, TIf, TWhile, TCall, TDef, TDefComputed, TDeclare, TDeclareComputed, TBlock, Forest, NoTree, Trees}
+use Rattle.hb_tree.specs.{Table.Table, Canon.bytes_at}
+use Rattle.hb_tree.specs.Tree.{Tree, TNil, TTrue, TFalse, TSelf, TInt, TText, TVar, TNew, TAssign, TPrint, TToStr, TNot, TBinary, TIf, TWhile, TCall, TDef, TDefComputed}
+use Rattle.hb_tree.specs.Tree.{TDeclare, TDeclareComputed, TBlock, Forest, NoTree, Trees}
 use Rattle.hb_names.specs.Names.{Name}
-use Rattle.hb_eval.specs.declared.printed.TheConstants.{OUTPUT_MAX}
-use Rattle.hb_eval.specs.declared.value.Value.{Value}
+use Rattle.hb_eval.specs.declared.{printed.TheConstants.OUTPUT_MAX, value.Value.Value}
 use Rattle.hb_eval.specs.declared.value.Value.TheVariants as value
 use Rattle.hb_eval.specs.declared.stop.Stop.TheVariants as stop
-use Rattle.hb_eval.specs.Values.{object, is_false}
-use Rattle.hb_eval.specs.Printing.{shown, print_line}
-use Rattle.hb_eval.specs.Operators.{operate}
+use Rattle.hb_eval.specs.{Values.object, Values.is_false, Printing.shown, Printing.print_line, Operators.operate}
 use Rattle.hb_eval.specs.State.{St, Answer, Lost, Done, Halt, then_do, gives, begin, value_at, bind}
 use Rattle.hb_eval.specs.Methods.{named, define, declare}
 

@@ -5,11 +5,10 @@ use Rattle.hb_tree.specs.declared.limits.TheConstants.{WORD_BYTES_MAX}
 use Rattle.hb_tree.specs.Spelling.{is_word, is_small, keywords}
 use Rattle.hb_names.specs.declared.names.TheConstants.{NAMES_MAX}
 use Rattle.hb_names.specs.Names.{Name, place}
-use Rattle.hb_tables.specs.declared.entry.Act.{Act}
-use Rattle.hb_tables.specs.declared.entry.Act.TheVariants.{Retype, Busy, WornType, Define, WornDef}
-use Rattle.hb_eval.specs.declared.value.Value.{Value}
+use Rattle.hb_tables.specs.declared.{entry.Act.Act, entry.Act.TheVariants.Retype, entry.Act.TheVariants.Busy, entry.Act.TheVariants.WornType, entry.Act.TheVariants.Define}
+use Rattle.hb_tables.specs.declared.{entry.Act.TheVariants.WornDef}
+use Rattle.hb_eval.specs.declared.{value.Value.Value, stop.Stop.Stop}
 use Rattle.hb_eval.specs.declared.value.Value.TheVariants as value
-use Rattle.hb_eval.specs.declared.stop.Stop.{Stop}
 use Rattle.hb_eval.specs.declared.stop.Stop.TheVariants as stop
 use Rattle.hb_eval.specs.State.{St, Answer, Lost, Halt, reads}
 

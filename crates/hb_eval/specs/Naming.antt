@@ -1,8 +1,7 @@
 -- A value as the name of a method.
 use Rattle.std.specs.Prelude.{◌≡◌, ℕ, List, true}
-use Rattle.hb_eval.specs.declared.value.Value.{Value}
+use Rattle.hb_eval.specs.declared.{value.Value.Value, stop.Stop.Stop}
 use Rattle.hb_eval.specs.declared.value.Value.TheVariants as value
-use Rattle.hb_eval.specs.declared.stop.Stop.{Stop}
 use Rattle.hb_eval.specs.State.{St, Answer, Halt}
 use Rattle.hb_eval.specs.Methods.{is_name, named}
 

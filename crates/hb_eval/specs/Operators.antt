@@ -1,13 +1,10 @@
 -- What an operator makes of two values: a value, or a stop.
 use Rattle.std.specs.Prelude.{ℕ, ◌^◌, ℤ, pos, negsuc, ◌+ℤ◌, ◌-ℤ◌, ◌*ℤ◌, int_lt, ◌≡◌, List, ◌++◌, length, Bool, ◌||◌, nat_lt, nat_le, Option, Some, None, Result, Ok, Err, if◌then◌else◌}
-use Rattle.hb_tree.specs.declared.limits.TheConstants.{TEXT_BYTES_MAX}
-use Rattle.hb_tree.specs.declared.node.Op.{Op}
+use Rattle.hb_tree.specs.declared.{limits.TheConstants.TEXT_BYTES_MAX, node.Op.Op}
 use Rattle.hb_tree.specs.declared.node.Op.TheVariants as op
-use Rattle.hb_eval.specs.declared.value.Value.{Value}
+use Rattle.hb_eval.specs.declared.{value.Value.Value, stop.Stop.Stop, stop.Fail.Fail}
 use Rattle.hb_eval.specs.declared.value.Value.TheVariants as value
-use Rattle.hb_eval.specs.declared.stop.Stop.{Stop}
 use Rattle.hb_eval.specs.declared.stop.Stop.TheVariants as stop
-use Rattle.hb_eval.specs.declared.stop.Fail.{Fail}
 use Rattle.hb_eval.specs.declared.stop.Fail.TheVariants as fail
 use Rattle.hb_eval.specs.Values.{is_nil, same}
 

@@ -2,8 +2,7 @@
 use Rattle.std.specs.Prelude.{ℕ, ℤ, List, [], ◌∷◌, ◌++◌, true, false, nat_eq, codes, flat_map, if◌then◌else◌}
 use Rattle.std.specs.Fmt.{signed_decimal}
 use Rattle.hb_types.specs.declared.ids.ClassId.{ClassId}
-use Rattle.hb_tree.specs.Table.{Table}
-use Rattle.hb_tree.specs.Canon.{bytes_at}
+use Rattle.hb_tree.specs.{Table.Table, Canon.bytes_at}
 use Rattle.hb_eval.specs.declared.value.Value.{Value}
 use Rattle.hb_eval.specs.declared.value.Value.TheVariants as value
 

@@ -4,14 +4,9 @@ use Rattle.std.specs.List.{AllByRecursion}
 use Rattle.hb_types.specs.declared.ids.KeyId.{KeyId}
 use Rattle.hb_tree.specs.Table.{Table}
 use Rattle.hb_tables.specs.Standing.{Stand}
-use Rattle.hb_eval.specs.declared.cont.Cont.{Cont}
+use Rattle.hb_eval.specs.declared.{cont.Cont.Cont, framed.Framed.Framed, state.State.State}
 use Rattle.hb_eval.specs.declared.cont.Cont.TheVariants as cont
-use Rattle.hb_eval.specs.declared.framed.Framed.{Framed}
-use Rattle.hb_eval.specs.declared.state.State.{State}
-use Rattle.hb_eval.specs.State.{Bindings, Answer}
-use Rattle.hb_eval.specs.Calls.{leave}
-use Rattle.hb_eval.specs.Machine.{Frames, frames_in}
-use Rattle.hb_eval.specs.Steps.{AreKnown}
+use Rattle.hb_eval.specs.{State.Bindings, State.Answer, Calls.leave, Machine.Frames, Machine.frames_in, Steps.AreKnown}
 
 -- Holds of these keys, as the reading of Frees sees them
 abbrev pub holds_of : List KeyId → List Stand

@@ -6,16 +6,10 @@ use Rattle.hb_tree.specs.TreeAt.{tree_at, IsExprAt, IsBlockAt}
 use Rattle.hb_tree.specs.Tree.{Tree, TCall, TDef, TDefComputed, TDeclare, TDeclareComputed, Forest, NoTree, Trees}
 use Rattle.hb_names.specs.Names.{Name}
 use Rattle.hb_tables.specs.declared.entry.Act.{Act}
-use Rattle.hb_eval.specs.declared.cont.Cont.{Cont}
+use Rattle.hb_eval.specs.declared.{cont.Cont.Cont, state.State.State, state.Hand.Hand, state.Move.Move}
 use Rattle.hb_eval.specs.declared.cont.Cont.TheVariants as cont
-use Rattle.hb_eval.specs.declared.state.State.{State}
-use Rattle.hb_eval.specs.declared.state.Hand.{Hand}
 use Rattle.hb_eval.specs.declared.state.Hand.TheVariants as hands
-use Rattle.hb_eval.specs.declared.state.Move.{Move}
-use Rattle.hb_eval.specs.Values.{IsKnown}
-use Rattle.hb_eval.specs.State.{St, Answer}
-use Rattle.hb_eval.specs.Meaning.{Calls}
-use Rattle.hb_eval.specs.Fuel.{KeepsFuel}
+use Rattle.hb_eval.specs.{Values.IsKnown, State.St, State.Answer, Meaning.Calls, Fuel.KeepsFuel}
 use Rattle.hb_eval.specs.Machine.{World, Frames, need, room, resume, stands, st_of}
 
 -- this holds for each list of names, and for calls that give no fuel back

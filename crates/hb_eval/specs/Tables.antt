@@ -4,18 +4,12 @@ use Rattle.std.specs.List.{AllByRecursion}
 use mathlib.Core.List.{IsPrefix}
 use Rattle.hb_names.specs.declared.names.TheConstants.{NAMES_MAX}
 use Rattle.hb_names.specs.Names.{Name}
-use Rattle.hb_tables.specs.declared.entry.Entry.{Entry}
-use Rattle.hb_tables.specs.declared.entry.Act.{Act}
+use Rattle.hb_tables.specs.declared.{entry.Entry.Entry, entry.Act.Act}
 use Rattle.hb_tables.specs.Frames.{acts}
-use Rattle.hb_eval.specs.declared.value.Value.{Value}
-use Rattle.hb_eval.specs.declared.stop.Stop.{Stop}
-use Rattle.hb_eval.specs.declared.cont.Cont.{Cont}
-use Rattle.hb_eval.specs.declared.state.State.{State}
-use Rattle.hb_eval.specs.declared.state.Move.{Move}
+use Rattle.hb_eval.specs.declared.{value.Value.Value, stop.Stop.Stop, cont.Cont.Cont, state.State.State, state.Move.Move}
 use Rattle.hb_eval.specs.State.{St, Answer, tagged}
-use Rattle.hb_eval.specs.Runs.{is_call}
+use Rattle.hb_eval.specs.{Runs.is_call, Steps.onto}
 use Rattle.hb_eval.specs.Machine.{World, Frames, resume, stands, st_of}
-use Rattle.hb_eval.specs.Steps.{onto}
 
 -- one act comes to the caller's journal, and this is what it means
 pub record Adds (c : ℕ) (old new : List Entry) (meaning : Act → Option (Result Value Stop)) (r : Result Value Stop) : Type 0 where

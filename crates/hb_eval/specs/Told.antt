@@ -1,8 +1,7 @@
 -- What is told of a run.
 use Rattle.std.specs.Prelude.{ℕ, List, Bool, true, false}
 use Rattle.hb_tables.specs.declared.entry.By.TheVariants as by
-use Rattle.hb_eval.specs.declared.script_run.ScriptRun.{ScriptRun}
-use Rattle.hb_eval.specs.declared.stop.Outcome.{Outcome}
+use Rattle.hb_eval.specs.declared.{script_run.ScriptRun.ScriptRun, stop.Outcome.Outcome}
 use Rattle.hb_eval.specs.declared.stop.Outcome.TheVariants as outcome
 use Rattle.hb_eval.specs.Runs.{Run, calls_in, entered_in}
 

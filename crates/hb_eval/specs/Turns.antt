@@ -4,20 +4,13 @@ use mathlib.Core.List.{IsPrefix}
 use Rattle.hb_tree.specs.Table.{Table}
 use Rattle.hb_names.specs.declared.names.TheConstants.{NAMES_MAX}
 use Rattle.hb_names.specs.Names.{Name}
-use Rattle.hb_tables.specs.declared.entry.Entry.{Entry}
-use Rattle.hb_tables.specs.declared.entry.Act.{Act}
+use Rattle.hb_tables.specs.declared.{entry.Entry.Entry, entry.Act.Act}
 use Rattle.hb_tables.specs.declared.entry.By.TheVariants as by
 use Rattle.hb_tables.specs.Frames.{acts}
-use Rattle.hb_eval.specs.declared.value.Value.{Value}
-use Rattle.hb_eval.specs.declared.cont.Cont.{Cont}
-use Rattle.hb_eval.specs.declared.framed.Framed.{Framed}
-use Rattle.hb_eval.specs.declared.state.State.{State}
-use Rattle.hb_eval.specs.declared.state.Hand.{Hand}
+use Rattle.hb_eval.specs.declared.{value.Value.Value, cont.Cont.Cont, framed.Framed.Framed, state.State.State, state.Hand.Hand, state.Move.Move}
 use Rattle.hb_eval.specs.declared.state.Hand.TheVariants as hands
-use Rattle.hb_eval.specs.declared.state.Move.{Move}
 use Rattle.hb_eval.specs.State.{St, Answer, tagged}
-use Rattle.hb_eval.specs.Calls.{call_in}
-use Rattle.hb_eval.specs.Runs.{is_call, is_entered}
+use Rattle.hb_eval.specs.{Calls.call_in, Runs.is_call, Runs.is_entered}
 use Rattle.hb_eval.specs.Machine.{World, need, frames_in, room, resume, stands, st_of}
 use Rattle.hb_eval.specs.Steps.{onto, need_of, IsFine, IsFinePush, IsFineStep, IsLight, Took, weigh_push}
 use Rattle.hb_eval.specs.Stacks.{frames_at, IsBased, AllKnown, ended_of, calls_in, calls_of}
@@ -101,7 +94,8 @@ pub record MayCall (x : State) : Type 0 where
   pub entered : x.own + x.fresh ≤ x.decided
 
 -- Some acts came, and a move was taken that leaves less to do than was there.
-pub record Turned (t : Table) (known : List Name) (c : ℕ) (past now : List Entry) (taken ended pending weight : ℕ) (old_frames : List Framed) (old : State) (new_frames : List Framed) (new : State) (told : Telling) (was conts : List Cont) (result : Hand) : Type 0 where
+pub record Turned (t : Table) (known : List Name) (c : ℕ) (past now : List Entry) (taken ended pending weight : ℕ) (old_frames : List Framed) (old : State) (new_frames : List Framed)
+    (new : State) (told : Telling) (was conts : List Cont) (result : Hand) : Type 0 where
   pub move : Move
   pub took : Took move was conts result
   pub reads : Reads known c past now old new told (after t move new_frames new)

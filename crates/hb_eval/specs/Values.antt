@@ -5,8 +5,8 @@ use Rattle.hb_types.specs.declared.types.Ty.{Ty}
 use Rattle.hb_types.specs.declared.types.Ty.TheVariants as ty
 use Rattle.hb_types.specs.Types.{is_below}
 use Rattle.hb_tree.specs.Table.{Table}
-use Rattle.hb_eval.specs.declared.value.Value.{Value}
-use Rattle.hb_eval.specs.declared.value.Value.TheVariants.{Nil, Bool as Truth, Int, Str, Object}
+use Rattle.hb_eval.specs.declared.{value.Value.Value, value.Value.TheVariants.Nil, value.Value.TheVariants.Bool as Truth, value.Value.TheVariants.Int, value.Value.TheVariants.Str}
+use Rattle.hb_eval.specs.declared.{value.Value.TheVariants.Object}
 
 -- an object of a class
 abbrev pub object : ℕ → Value

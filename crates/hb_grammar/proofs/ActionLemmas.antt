@@ -16,8 +16,8 @@ use Rattle.hb_grammar.specs.Sight.{kind_eq, is_kind, front, choice, run, acts, D
 use Rattle.hb_grammar.proofs.SightLemmas.{same_kind, choice-derives, IsFollowed, IsFollowed-phrase, holds_of, is_sort}
 use Rattle.hb_grammar.proofs.ExactLemmas.{is_choice, missed_not_done, phrase_of, phrase_done}
 use Rattle.hb_grammar.proofs.WantedLemmas.{IsSigned, sign_is, signs_ok, all_signs, signed_choice, signed_sort, signed_action, signed_tail, signed_first, same_want}
-use Rattle.hb_grammar.proofs.TopLemmas.{misses-run, cut_at, ends_program}
-use Rattle.hb_grammar.proofs.PotentialLemmas.{potential-action, potential-phrase, potential-token}
+use Rattle.hb_grammar.proofs.{TopLemmas.misses-run, TopLemmas.cut_at, TopLemmas.ends_program, PotentialLemmas.potential-action, PotentialLemmas.potential-phrase}
+use Rattle.hb_grammar.proofs.{PotentialLemmas.potential-token}
 use Rattle.hb_grammar.proofs.CourseLemmas.{Does-token, Does-phrase, Does-action, Does-missed, Does-left, Does-done}
 
 -- ── a run that is done translates the tokens ──
@@ -76,7 +76,7 @@ has_translation (N sort ∷ stack) at =
     let h : HasTranslation stack (at + length (phrase_of sort)) = has_translation stack (at + length (phrase_of sort)) in
     let d : Translates 40 (N sort ∷ []) at (phrase_of sort) (acts 40 (N sort ∷ []) at (phrase_of sort)) = translates-run 40 (N sort ∷ []) at (phrase_of sort) (phrase_done sort) in
     let r : (k : ℕ) × Translates k (N sort ∷ stack) at (phrase_of sort ++ h.tokens) (acts 40 (N sort ∷ []) at (phrase_of sort) ++ h.done) = Translates-append 40 h.steps (N sort ∷ []) stack at
-         (phrase_of sort) h.tokens (acts 40 (N sort ∷ []) at (phrase_of sort)) h.done d h.translates in
+    (phrase_of sort) h.tokens (acts 40 (N sort ∷ []) at (phrase_of sort)) h.done d h.translates in
     record { tokens = phrase_of sort ++ h.tokens; done = acts 40 (N sort ∷ []) at (phrase_of sort) ++ h.done; steps = r.0; translates = r.1 }
 
 -- an action comes behind the tokens that were read before
@@ -181,7 +181,7 @@ follows-acts (suc n) (T j ∷ stack) at [] w left g e =
 follows-acts (suc n) (T j ∷ stack) at (t ∷ ts) w left g e = elim (cases_Bool (kind_eq t j)) [
   | inl y ↦
       let r : FollowsActs stack (at + 1) ts w left (acts n stack (at + 1) ts) = follows-acts n stack (at + 1) ts w left (inl (signed_tail t j stack g))
-           (sym (cond-true (kind_eq t j) (run n stack ts) (Missed (wanted_for j) (length (t ∷ ts))) y) ∙ e) in
+      (sym (cond-true (kind_eq t j) (run n stack ts) (Missed (wanted_for j) (length (t ∷ ts))) y) ∙ e) in
       let same : acts (suc n) (T j ∷ stack) at (t ∷ ts) ≡ acts n stack (at + 1) ts = cond-true (kind_eq t j) (acts n stack (at + 1) ts) [] y in
       subst (λ (z : List Act). FollowsActs (T j ∷ stack) at (t ∷ ts) w left z) (sym same) (acts_token j t stack at ts w left (acts n stack (at + 1) ts) (same_kind t j y) r)
   | inr f ↦
@@ -189,14 +189,14 @@ follows-acts (suc n) (T j ∷ stack) at (t ∷ ts) w left g e = elim (cases_Bool
       let h : length (t ∷ ts) ≡ left = cc z in
       let none : acts (suc n) (T j ∷ stack) at (t ∷ ts) ≡ [] = cond-false (kind_eq t j) (acts n stack (at + 1) ts) [] f in
       let r : FollowsActs (T j ∷ stack) at (t ∷ ts) w left [] = subst (λ (x : ℕ). FollowsActs (T j ∷ stack) at (t ∷ ts) w x []) h
-           (acts_at_once j stack at (t ∷ ts) w (sym (same_want z)) (signed_first (Some t) j stack g f)) in
+      (acts_at_once j stack at (t ∷ ts) w (sym (same_want z)) (signed_first (Some t) j stack g f)) in
       subst (λ (x : List Act). FollowsActs (T j ∷ stack) at (t ∷ ts) w left x) (sym none) r
 ]
 follows-acts (suc n) (A a ∷ stack) at tokens w left g e = acts_action a stack at tokens w left (acts n stack at tokens) (follows-acts n stack at tokens w left (inl (signed_action (front tokens) a stack g)) e)
 follows-acts (suc n) (N sort ∷ stack) at tokens w left g e =
     let ok : signs_ok (alternatives sort) ≡ true = holds_of (λ (x : Sort). signs_ok (alternatives x)) sorts sort all_signs (is_sort sort) in
     let r : FollowsActs (choice (alternatives sort) (front tokens) ++ stack) at tokens w left (acts n (choice (alternatives sort) (front tokens) ++ stack) at tokens) = follows-acts n
-         (choice (alternatives sort) (front tokens) ++ stack) at tokens w left (signed_choice (alternatives sort) (front tokens) stack ok (signed_sort (front tokens) sort stack g)) e in
+    (choice (alternatives sort) (front tokens) ++ stack) at tokens w left (signed_choice (alternatives sort) (front tokens) stack ok (signed_sort (front tokens) sort stack g)) e in
     acts_phrase sort stack at tokens w left (acts n (choice (alternatives sort) (front tokens) ++ stack) at tokens) r
 
 first_actions : (kinds : List TokenKind) (at : ℕ) (w : Wanted) (done : List Act) (n : ℕ) → at ≤ length kinds → run n program kinds ≡ Missed w (length (drop at kinds))
@@ -331,9 +331,9 @@ translates-until (suc n) (suc m) (A x ∷ stack) at before s more more' a b f d 
     ∙ sym (until-early (at + length before) (act x at) e.0 here) ∙ ap (λ (z : List Act). until (at + length before) z) (sym e.1)
 translates-until (suc n) (suc m) (N sort ∷ stack) at before s more more' a b f d e =
     let left_one : choice (alternatives sort) (front (before ++ with_sign s more)) ≡ d.0 = choice-derives n sort stack (before ++ with_sign s more) d.0 f d.1
-         (derives-translates n (d.0 ++ stack) at (before ++ with_sign s more) a d.2) in
+    (derives-translates n (d.0 ++ stack) at (before ++ with_sign s more) a d.2) in
     let right_one : choice (alternatives sort) (front (before ++ with_sign s more')) ≡ e.0 = choice-derives m sort stack (before ++ with_sign s more') e.0 f e.1
-         (derives-translates m (e.0 ++ stack) at (before ++ with_sign s more') b e.2) in
+    (derives-translates m (e.0 ++ stack) at (before ++ with_sign s more') b e.2) in
     let same : e.0 ≡ d.0 = sym right_one ∙ ap (λ z. choice (alternatives sort) z) (front-sign before s more' more) ∙ left_one in
     translates-until n m (d.0 ++ stack) at before s more more' a b (IsFollowed-phrase sort stack d.0 d.1 f) d.2 (subst (λ (z : List Symbol). Translates m (z ++ stack) at (before ++ with_sign s more') b) same e.2)
 

@@ -10,8 +10,7 @@ use Rattle.hb_grammar.specs.declared.wanted.Wanted.TheVariants as want
 use Rattle.hb_grammar.specs.Language.{Act, act, kinds_of}
 use Rattle.hb_grammar.specs.Sight.{is_kind, kind_eq, front, choice, run, acts, Does, Outcome, Done, Missed, wanted_for}
 use Rattle.hb_grammar.specs.Course.{Course, left, Turns, Leads, Reaches, ComesTo, StopsAt}
-use Rattle.hb_grammar.proofs.SightLemmas.{same_kind, kind_same}
-use Rattle.hb_grammar.proofs.PotentialLemmas.{potential-action, potential-phrase, potential-token}
+use Rattle.hb_grammar.proofs.{SightLemmas.same_kind, SightLemmas.kind_same, PotentialLemmas.potential-action, PotentialLemmas.potential-phrase, PotentialLemmas.potential-token}
 
 -- ── what a run does, turn by turn ──
 
@@ -74,7 +73,7 @@ Turns-append (suc n) m (T j ∷ stack) (t ∷ ts) stack' tokens' stack'' tokens'
     let r : (k : ℕ) × Turns k stack ts stack'' tokens'' = Turns-append n m stack ts stack' tokens' stack'' tokens'' v.1 w in (suc r.0, (v.0, r.1))
 Turns-append (suc n) m (N s ∷ stack) tokens stack' tokens' stack'' tokens'' v w =
     let r : (k : ℕ) × Turns k (choice (alternatives s) (front tokens) ++ stack) tokens stack'' tokens'' = Turns-append n m
-         (choice (alternatives s) (front tokens) ++ stack) tokens stack' tokens' stack'' tokens'' v w in (suc r.0, r.1)
+    (choice (alternatives s) (front tokens) ++ stack) tokens stack' tokens' stack'' tokens'' v w in (suc r.0, r.1)
 Turns-append _ _ _ _ _ _ _ _ v _ = absurd v
 
 pub Leads-on : (stack : List Symbol) (tokens : List TokenKind) (stack' : List Symbol) (tokens' : List TokenKind) (stack'' : List Symbol) (tokens'' : List TokenKind)
@@ -213,7 +212,7 @@ stops old tokens read stack mid j w same within started top f named l =
     let new : Course = record { tokens = tokens; ahead = reverse mid; read = read } in
     let l' : Leads old.ahead (left old) (T j ∷ reverse mid) here = subst (λ (z : List Symbol). Leads old.ahead (left old) z here) (popped stack mid (T j) top) l in
     let r : Does old.ahead old.read (left old) [] (Missed (wanted_for j) (length here)) = does_here old new (T j ∷ reverse mid) [] (Missed (wanted_for j) (length here)) same started within l'
-         (Does-missed j (reverse mid) read here f) in
+    (Does-missed j (reverse mid) read here f) in
     record { tokens = same; within = within; does = subst (λ (z : Wanted). Does old.ahead old.read (left old) [] (Missed z (length here))) (sym named) r }
 
 pub stops_behind : (old : Course) (tokens : List Token) (read : ℕ) (stack : List Symbol) → tokens ≡ old.tokens → read < length tokens → old.read ≤ length old.tokens → reverse stack ≡ []

@@ -14,36 +14,7 @@ use Rattle.hb_grammar.proofs.SightLemmas.{same_kind, kind_same, choice_is, choic
 -- each sort has an alternative, so that the chosen one is one of them
 pub is_choice : (sort : Sort) (tokens : List TokenKind) → IsOneOf (alternatives sort) (choice (alternatives sort) (front tokens))
 is_choice g.Program tokens = choice_is (alternatives g.Program) (front tokens) _ _ refl
-is_choice g.Classes tokens = choice_is (alternatives g.Classes) (front tokens) _ _ refl
-is_choice g.Scripts tokens = choice_is (alternatives g.Scripts) (front tokens) _ _ refl
-is_choice g.Block tokens = choice_is (alternatives g.Block) (front tokens) _ _ refl
-is_choice g.Items tokens = choice_is (alternatives g.Items) (front tokens) _ _ refl
-is_choice g.MoreItems tokens = choice_is (alternatives g.MoreItems) (front tokens) _ _ refl
-is_choice g.Expression tokens = choice_is (alternatives g.Expression) (front tokens) _ _ refl
-is_choice g.AfterName tokens = choice_is (alternatives g.AfterName) (front tokens) _ _ refl
-is_choice g.OtherUnary tokens = choice_is (alternatives g.OtherUnary) (front tokens) _ _ refl
-is_choice g.Method tokens = choice_is (alternatives g.Method) (front tokens) _ _ refl
-is_choice g.MethodName tokens = choice_is (alternatives g.MethodName) (front tokens) _ _ refl
-is_choice g.Signature tokens = choice_is (alternatives g.Signature) (front tokens) _ _ refl
-is_choice g.Types tokens = choice_is (alternatives g.Types) (front tokens) _ _ refl
-is_choice g.MoreTypes tokens = choice_is (alternatives g.MoreTypes) (front tokens) _ _ refl
-is_choice g.TypeWord tokens = choice_is (alternatives g.TypeWord) (front tokens) _ _ refl
-is_choice g.MoreComparison tokens = choice_is (alternatives g.MoreComparison) (front tokens) _ _ refl
-is_choice g.Sum tokens = choice_is (alternatives g.Sum) (front tokens) _ _ refl
-is_choice g.MoreSum tokens = choice_is (alternatives g.MoreSum) (front tokens) _ _ refl
-is_choice g.Product tokens = choice_is (alternatives g.Product) (front tokens) _ _ refl
-is_choice g.MoreProduct tokens = choice_is (alternatives g.MoreProduct) (front tokens) _ _ refl
-is_choice g.Unary tokens = choice_is (alternatives g.Unary) (front tokens) _ _ refl
-is_choice g.Postfix tokens = choice_is (alternatives g.Postfix) (front tokens) _ _ refl
-is_choice g.MorePostfix tokens = choice_is (alternatives g.MorePostfix) (front tokens) _ _ refl
-is_choice g.Arguments tokens = choice_is (alternatives g.Arguments) (front tokens) _ _ refl
-is_choice g.ArgumentList tokens = choice_is (alternatives g.ArgumentList) (front tokens) _ _ refl
-is_choice g.MoreArguments tokens = choice_is (alternatives g.MoreArguments) (front tokens) _ _ refl
-is_choice g.Primary tokens = choice_is (alternatives g.Primary) (front tokens) _ _ refl
-is_choice g.Value tokens = choice_is (alternatives g.Value) (front tokens) _ _ refl
-is_choice g.ElsePart tokens = choice_is (alternatives g.ElsePart) (front tokens) _ _ refl
-is_choice g.Parameters tokens = choice_is (alternatives g.Parameters) (front tokens) _ _ refl
-is_choice g.MoreParameters tokens = choice_is (alternatives g.MoreParameters) (front tokens) _ _ refl
+is_choice sort tokens = choice_is (alternatives sort) (front tokens) _ _ refl
 
 -- where a run ends early
 abbrev pub EndsAt : Outcome → ℕ → Type 0
@@ -192,8 +163,13 @@ begins-run (suc n) (T j ∷ stack) [] left e = at_once (T j ∷ stack) [] left e
 begins-run (suc n) (T j ∷ stack) (t ∷ ts) left e = elim (cases_Bool (kind_eq t j)) [
   | inl y ↦ let P = λ (o : Outcome). EndsAt o left in
       let r : BeginsBefore stack ts left = begins-run n stack ts left (subst P (cond-true (kind_eq t j) (run n stack ts) (Missed (wanted_for j) (length (t ∷ ts))) y) e) in
-      record { before = t ∷ r.before; rest = r.rest; cut = ap (λ x. t ∷ x) r.cut; here = r.here;
-          begins = (r.begins.0, (suc r.begins.1.0, (r.before ++ r.begins.0, ap (λ x. x ∷ (r.before ++ r.begins.0)) (same_kind t j y), r.begins.1.1))) }
+      record {
+        before = t ∷ r.before;
+        rest = r.rest;
+        cut = ap (λ x. t ∷ x) r.cut;
+        here = r.here;
+        begins = (r.begins.0, (suc r.begins.1.0, (r.before ++ r.begins.0, ap (λ x. x ∷ (r.before ++ r.begins.0)) (same_kind t j y), r.begins.1.1)));
+      }
   | inr f ↦ let P = λ (o : Outcome). EndsAt o left in at_once (T j ∷ stack) (t ∷ ts) left (subst P (cond-false (kind_eq t j) (run n stack ts) (Missed (wanted_for j) (length (t ∷ ts))) f) e)
 ]
 begins-run (suc n) (A a ∷ stack) tokens left e =

@@ -7,8 +7,7 @@ use Rattle.hb_lex.specs.declared.kinds.TokenKind.TheVariants as k
 use Rattle.hb_grammar.proofs.{TableLemmas.sorts, SightLemmas.holds_of, SightLemmas.is_sort}
 use Rattle.hb_grammar.specs.declared.{actions.Action.Action, symbols.Sort.Sort, symbols.Symbol.Symbol, symbols.Symbol.TheVariants.Token as T}
 use Rattle.hb_grammar.specs.declared.{symbols.Symbol.TheVariants.Phrase as N, symbols.Symbol.TheVariants.Action as A}
-use Rattle.hb_grammar.specs.Grammar.{alternatives}
-use Rattle.hb_grammar.specs.Sight.{is_kind, front, choice}
+use Rattle.hb_grammar.specs.{Grammar.alternatives, Sight.is_kind, Sight.front, Sight.choice}
 use Rattle.hb_grammar.specs.Measure.{weight, weights, is_next, potential}
 
 weights-append : (a b : List Symbol) → weights (a ++ b) ≡ weights a + weights b

@@ -150,7 +150,7 @@ chosen (p ∷ q ∷ more) follow sight phrase h one b = elim (cases_Bool (may_be
       cond-true (may_begin p false sight) p (choice (q ∷ more) sight) t ∙ elim one [ inl e ↦ sym e | inr r ↦ absurd (none_of (q ∷ more) follow sight phrase none r b) ]
   | inr f ↦
       let both : (not (may_begin p follow sight) && is_clear (q ∷ more) follow sight) ≡ true = sym
-           (cond-false (may_begin p false sight) (none_begins (q ∷ more) follow sight) (not (may_begin p follow sight) && is_clear (q ∷ more) follow sight) f) ∙ h in
+      (cond-false (may_begin p false sight) (none_begins (q ∷ more) follow sight) (not (may_begin p follow sight) && is_clear (q ∷ more) follow sight) f) ∙ h in
       let parts : (not (may_begin p follow sight) ≡ true) × (is_clear (q ∷ more) follow sight ≡ true) = and_parts _ _ both in
       cond-false (may_begin p false sight) p (choice (q ∷ more) sight) f ∙ elim one [
         | inl e ↦ let P = λ (z : List Symbol). may_begin z follow sight ≡ true in absurd (both_ways (may_begin p follow sight) (not-true _ parts.0) (subst P e b))

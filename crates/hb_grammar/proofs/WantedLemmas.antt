@@ -102,9 +102,9 @@ choice_begins sort sight rest h = elim (or_cases (among (starts sort) sight) (ma
       (implies (may_be_empty sort) (may_begin (choice (alternatives sort) sight) true sight)) (taken sort sight)).0 e)
   | inr e ↦ let p : (may_be_empty sort ≡ true) × (rest ≡ true) = and_parts (may_be_empty sort) rest e in
       may_begin-more (choice (alternatives sort) sight) true rest sight (λ x. p.1)
-          (implies_then (may_be_empty sort) (may_begin (choice (alternatives sort) sight) true sight)
-          (and_parts (implies (among (starts sort) sight) (may_begin (choice (alternatives sort) sight) false sight))
-          (implies (may_be_empty sort) (may_begin (choice (alternatives sort) sight) true sight)) (taken sort sight)).1 p.0)
+      (implies_then (may_be_empty sort) (may_begin (choice (alternatives sort) sight) true sight)
+      (and_parts (implies (among (starts sort) sight) (may_begin (choice (alternatives sort) sight) false sight))
+      (implies (may_be_empty sort) (may_begin (choice (alternatives sort) sight) true sight)) (taken sort sight)).1 p.0)
 ]
 
 goes_on : (n : ℕ) (stack : List Symbol) (tokens : List TokenKind) (w : Wanted) → run n stack tokens ≡ Missed w (length tokens) → may_begin stack (is_none (front tokens)) (front tokens) ≡ true → ⊥
@@ -194,20 +194,20 @@ last_offers : (sort : Sort) (stack : List Symbol) (w : Wanted) → Offers stack 
 last_offers sort stack w o b =
     let last : List Symbol = last_of (alternatives sort) in
     let parts : (implies (may_be_empty sort) (is_empty (last_of (alternatives sort))) ≡ true)
-         × (list_all (λ w. implies (among (starts sort) (sign w)) (has_want (last_of (alternatives sort)) (rank w) || (is_empty (last_of (alternatives sort)) && nat_le (cap sort) (rank w))))
-         wants ≡ true) = and_parts _ _ (and_parts (covers sort) (list_all (λ p. is_capped p (cap sort)) (alternatives sort)) (wanted sort)).0 in
+    × (list_all (λ w. implies (among (starts sort) (sign w)) (has_want (last_of (alternatives sort)) (rank w) || (is_empty (last_of (alternatives sort)) && nat_le (cap sort) (rank w))))
+    wants ≡ true) = and_parts _ _ (and_parts (covers sort) (list_all (λ p. is_capped p (cap sort)) (alternatives sort)) (wanted sort)).0 in
     elim (or_cases (among (starts sort) (sign w)) (may_be_empty sort && may_begin stack (is_none (sign w)) (sign w)) b) [
       | inl e ↦ elim (or_cases (has_want (last_of (alternatives sort)) (rank w)) (is_empty (last_of (alternatives sort)) && nat_le (cap sort) (rank w)) (implies_then
           (among (starts sort) (sign w)) (has_want (last_of (alternatives sort)) (rank w) || (is_empty (last_of (alternatives sort)) && nat_le (cap sort) (rank w)))
           (holds_of (λ w. implies (among (starts sort) (sign w)) (has_want (last_of (alternatives sort)) (rank w) || (is_empty (last_of (alternatives sort)) && nat_le (cap sort) (rank w)))) wants
           w parts.1 (is_want w)) e)) [
-        | inl h ↦ offers_front (last_of (alternatives sort)) stack (rank w) h
-        | inr h ↦ let q : (is_empty (last_of (alternatives sort)) ≡ true) × (nat_le (cap sort) (rank w) ≡ true) = and_parts _ _ h in
-            offers_behind (last_of (alternatives sort)) stack (cap sort) (rank w) q.0 (leb-true (cap sort) (rank w) q.1) o
-      ]
+            | inl h ↦ offers_front (last_of (alternatives sort)) stack (rank w) h
+            | inr h ↦ let q : (is_empty (last_of (alternatives sort)) ≡ true) × (nat_le (cap sort) (rank w) ≡ true) = and_parts _ _ h in
+                offers_behind (last_of (alternatives sort)) stack (cap sort) (rank w) q.0 (leb-true (cap sort) (rank w) q.1) o
+          ]
       | inr e ↦ let q : (may_be_empty sort ≡ true) × (may_begin stack (is_none (sign w)) (sign w) ≡ true) = and_parts _ _ e in
           offers_behind (last_of (alternatives sort)) stack (rank w) (rank w) (implies_then (may_be_empty sort) (is_empty (last_of (alternatives sort))) parts.0 q.0) (omega arith)
-              (record { want = w; low = omega arith; begins = q.1 })
+          (record { want = w; low = omega arith; begins = q.1 })
     ]
 
 -- a missing token is named by the want that it is the sign of
@@ -243,7 +243,7 @@ lowest_here (suc n) [] (t ∷ ts) w c e other b = let P = λ (x : Wanted). rank 
 lowest_here (suc n) (T j ∷ stack) [] w c e other b = let P = λ (x : Wanted). rank x ≤ rank other in subst P (same_want e) (want_sign other j b)
 lowest_here (suc n) (T j ∷ stack) (t ∷ ts) w c e other b = elim (cases_Bool (kind_eq t j)) [
   | inl y ↦ let h : length (t ∷ ts) ≤ length ts = left_at_most n stack ts (length (t ∷ ts))
-                 (ends_at _ w _ (sym (cond-true (kind_eq t j) (run n stack ts) (Missed (wanted_for j) (length (t ∷ ts))) y) ∙ e)) in absurd (omega arith)
+      (ends_at _ w _ (sym (cond-true (kind_eq t j) (run n stack ts) (Missed (wanted_for j) (length (t ∷ ts))) y) ∙ e)) in absurd (omega arith)
   | inr f ↦ let P = λ (x : Wanted). rank x ≤ rank other in subst P (same_want (sym (cond-false (kind_eq t j) (run n stack ts) (Missed (wanted_for j) (length (t ∷ ts))) f) ∙ e)) (want_sign other j b)
 ]
 lowest_here (suc n) (A a ∷ stack) tokens w c e other b = lowest_here n stack tokens w c e other b
@@ -257,7 +257,7 @@ lowest_here (suc n) (N sort ∷ stack) tokens w c e other b =
           let P = λ (p : List Symbol). run n (p ++ stack) tokens ≡ Missed w (length tokens) in
           let Q = λ (p : List Symbol). IsOneOf (alternatives sort) p in
           let h : rank w ≤ rank o.want = lowest_here n (last_of (alternatives sort) ++ stack) tokens w
-               (IsCapped-phrase sort stack (last_of (alternatives sort)) (subst Q l (is_choice sort tokens)) c) (subst P l e) o.want o.begins in
+          (IsCapped-phrase sort stack (last_of (alternatives sort)) (subst Q l (is_choice sort tokens)) c) (subst P l e) o.want o.begins in
           let k : rank o.want ≤ rank other = o.low in omega arith
     ]
 
@@ -394,8 +394,13 @@ follows-run (suc n) (T j ∷ stack) [] w left g e =
     subst P h (follows_at_once j stack [] w (sym (same_want e)) (signed_first None j stack g refl))
 follows-run (suc n) (T j ∷ stack) (t ∷ ts) w left g e = elim (cases_Bool (kind_eq t j)) [
   | inl y ↦ let r : Follows stack ts w left = follows-run n stack ts w left (inl (signed_tail t j stack g)) (sym (cond-true (kind_eq t j) (run n stack ts) (Missed (wanted_for j) (length (t ∷ ts))) y) ∙ e) in
-      record { before = t ∷ r.before; rest = r.rest; cut = ap (λ x. t ∷ x) r.cut; here = r.here;
-          may = (r.may.0, (suc r.may.1.0, (r.before ++ with_sign (sign w) r.may.0, ap (λ x. x ∷ (r.before ++ with_sign (sign w) r.may.0)) (same_kind t j y), r.may.1.1))) }
+      record {
+        before = t ∷ r.before;
+        rest = r.rest;
+        cut = ap (λ x. t ∷ x) r.cut;
+        here = r.here;
+        may = (r.may.0, (suc r.may.1.0, (r.before ++ with_sign (sign w) r.may.0, ap (λ x. x ∷ (r.before ++ with_sign (sign w) r.may.0)) (same_kind t j y), r.may.1.1)));
+      }
   | inr f ↦ let z : Missed (wanted_for j) (length (t ∷ ts)) ≡ Missed w left = sym (cond-false (kind_eq t j) (run n stack ts) (Missed (wanted_for j) (length (t ∷ ts))) f) ∙ e in
       let P = λ (x : ℕ). Follows (T j ∷ stack) (t ∷ ts) w x in
       let h : length (t ∷ ts) ≡ left = cc z in
@@ -408,5 +413,5 @@ follows-run (suc n) (N sort ∷ stack) tokens w left g e =
     let phrase : List Symbol = choice (alternatives sort) (front tokens) in
     let ok : signs_ok (alternatives sort) ≡ true = holds_of (λ (x : Sort). signs_ok (alternatives x)) sorts sort all_signs (is_sort sort) in
     let r : Follows (phrase ++ stack) tokens w left = follows-run n (choice (alternatives sort) (front tokens) ++ stack) tokens w left
-         (signed_choice (alternatives sort) (front tokens) stack ok (signed_sort (front tokens) sort stack g)) e in
+    (signed_choice (alternatives sort) (front tokens) stack ok (signed_sort (front tokens) sort stack g)) e in
     record { before = r.before; rest = r.rest; cut = r.cut; here = r.here; may = (r.may.0, (suc r.may.1.0, (phrase, is_choice sort tokens, r.may.1.1))) }

@@ -1,10 +1,9 @@
 -- One more move, after those of the turns before.
 use Rattle.std.proofs.Common.{◌≡◌, ℕ, ◌+◌, ◌-◌, ◌≤◌, List, [], ◌++◌, length, take, drop}
 use Rattle.std.proofs.Common.{sym, ap, ap₂, ◌∙◌, append_assoc, length-append, take-append-drop}
-use Rattle.std.proofs.lemmas.List.{drop-drop, take_rest, length-take-le}
+use Rattle.std.proofs.{lemmas.List.drop-drop, lemmas.List.take_rest, lemmas.List.length-take-le, KnownBytes.Consumes-trans}
 use Rattle.std.specs.declared.option.Option.{Option}
 use Rattle.std.specs.Io.KnownBytes.{Consumes}
-use Rattle.std.proofs.KnownBytes.{Consumes-trans}
 
 -- the front grows by the first n of the rest
 pub front-moved : (all done rest : List ℕ) (n : ℕ) → all ≡ done ++ rest

@@ -1,7 +1,6 @@
 -- What the adapters are made of.
 use Rattle.std.specs.Prelude.{ℕ}
-use Rattle.hb_io.specs.declared.real.RealSource.{RealSource}
-use Rattle.hb_io.specs.declared.real.RealSink.{RealSink}
+use Rattle.hb_io.specs.declared.{real.RealSource.RealSource, real.RealSink.RealSink}
 
 -- the reader of a source
 abbrev pub source_reader : {R : Type 0} → RealSource R → R

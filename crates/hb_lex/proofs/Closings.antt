@@ -1,7 +1,6 @@
 -- The bytes behind an opening quote, read one by one.
 use Rattle.std.proofs.Common.{◌≡◌, ℕ, suc, ◌+◌, ◌<◌, List, ◌∷◌, length, take, drop, get_or, Bool, true, false, Some, refl, sym, ◌∙◌, ap, arith}
-use Rattle.std.proofs.lemmas.Bool.{and_from, cond-true, cond-false}
-use Rattle.std.proofs.lemmas.List.{drop_more}
+use Rattle.std.proofs.{lemmas.Bool.and_from, lemmas.Bool.cond-true, lemmas.Bool.cond-false, lemmas.List.drop_more}
 use Rattle.hb_lex.specs.declared.faults.LexFail.{LexFail}
 use Rattle.hb_lex.specs.Bytes.{is_line_feed, is_quote, is_backslash, is_plain, is_escape}
 use Rattle.hb_lex.specs.Literal.{is_closed, text_fault}

@@ -1,7 +1,6 @@
 -- The bytes behind the last line feed, counted from the end.
 use Rattle.std.proofs.Common.{◌≡◌, ◌-◌, ◌+◌, ◌<◌, List, ◌++◌, [], ◌∷◌, ℕ, Bool, true, false, length, drop, take, get_or, reverse, not, cond, refl, sym, ◌∙◌, ap, arith, length-take, length-drop}
-use Rattle.std.specs.Prelude.{take_while, count_by}
-use Rattle.std.specs.List.{after_last, suffix_len, prefix_len}
+use Rattle.std.specs.{Prelude.take_while, Prelude.count_by, List.after_last, List.suffix_len, List.prefix_len}
 use Rattle.std.proofs.lemmas.Bool.{cond-true, cond-false, eq-eqb, ne_eqb, not_from_true, not_from_false}
 use Rattle.std.proofs.lemmas.List.{length-reverse, reverse-append, take_more, get_or-take, get_or-drop}
 use Rattle.std.proofs.lemmas.List.Sums.{sum_by-append, prefix_len-le-length}

@@ -7,9 +7,8 @@ use Rattle.std.proofs.{lemmas.Bool.Decides.nat_tests, lemmas.Slice.Eq.bytes_eq-D
 use Rattle.hb_lex.specs.declared.kinds.TokenKind.{TokenKind}
 use Rattle.hb_lex.specs.declared.kinds.TokenKind.TheVariants as k
 use Rattle.hb_lex.specs.Bytes.{is_small, is_capital, is_digit, is_word_byte, is_quote}
-use Rattle.hb_lex.specs.Literal.{is_number, is_text, is_closed}
+use Rattle.hb_lex.specs.{Literal.is_number, Literal.is_text, Literal.is_closed, Tokens.kind_of, Tokens.formed, Tokens.is_word}
 use Rattle.hb_lex.specs.Spelling.{spelling, words, marks, spelled, fixed}
-use Rattle.hb_lex.specs.Tokens.{kind_of, formed, is_word}
 
 -- ── sorts of first bytes ──
 

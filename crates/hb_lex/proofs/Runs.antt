@@ -7,8 +7,7 @@ use Rattle.std.proofs.{lemmas.Bool.Decides.nat_tests, lemmas.List.Sums.take_whil
 use Rattle.std.proofs.lemmas.List.{drop_more, drop_all, drop-drop, append-nil, take_rest}
 use Rattle.hb_lex.specs.declared.{kinds.TokenKind.TokenKind, faults.LexFail.LexFail, spans.Token.Token}
 use Rattle.hb_lex.specs.declared.kinds.TokenKind.TheVariants as k
-use Rattle.hb_lex.specs.Bytes.{is_blank, is_hash, is_line_feed}
-use Rattle.hb_lex.specs.Tokens.{IsNext}
+use Rattle.hb_lex.specs.{Bytes.is_blank, Bytes.is_hash, Bytes.is_line_feed, Tokens.IsNext}
 use Rattle.hb_lex.specs.Text.{Answer, Lexes, HasTokens, HasFault, IsFront, after, comment_len, separates, token_at}
 use Rattle.hb_lex.proofs.Forms.{empty_none}
 

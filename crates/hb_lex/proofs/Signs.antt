@@ -8,9 +8,8 @@ use Rattle.hb_lex.specs.declared.kinds.TokenKind.{TokenKind}
 use Rattle.hb_lex.specs.declared.kinds.TokenKind.TheVariants as k
 use Rattle.hb_lex.specs.Bytes.{is_small, is_capital, is_digit, is_word_byte, is_quote}
 use Rattle.hb_lex.specs.Spelling.{spelling, words, marks, spelled, fixed}
-use Rattle.hb_lex.specs.Tokens.{kind_of, IsNext, BeginsNone}
+use Rattle.hb_lex.specs.{Tokens.kind_of, Tokens.IsNext, Tokens.BeginsNone, Text.front_fault}
 use Rattle.hb_lex.specs.declared.faults.LexFail.TheVariants as fail
-use Rattle.hb_lex.specs.Text.{front_fault}
 use Rattle.hb_lex.proofs.Forms.{none_from, kind_cases, formed_cases, Small, Capital, Digits, Quoted, mark_fixed, spelled_shape, all_fixed, kind_of_spelling, empty_none, found}
 
 abbrev first : List ℕ → ℕ

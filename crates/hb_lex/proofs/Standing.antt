@@ -7,11 +7,9 @@ use Rattle.hb_lex.specs.declared.{kinds.TokenKind.TokenKind, faults.LexFail.LexF
 use Rattle.hb_lex.specs.declared.kinds.TokenKind.TheVariants as k
 use Rattle.hb_lex.specs.declared.faults.LexFail.TheVariants as fail
 use Rattle.hb_lex.specs.Bytes.{is_blank, is_hash, is_line_feed, is_quote, is_backslash, is_plain, is_escape}
-use Rattle.hb_lex.specs.Fault.{IsFaultOf}
-use Rattle.hb_lex.specs.Literal.{text_fault, value_of_number, value_of_text}
+use Rattle.hb_lex.specs.{Fault.IsFaultOf, Literal.text_fault, Literal.value_of_number, Literal.value_of_text, Sizes.longest_name, Sizes.longest_text, Sizes.greatest_number}
 use Rattle.hb_lex.specs.Tokens.{IsNext, Stands, AreInOrder, bytes_of, kind_of, excess}
 use Rattle.hb_lex.specs.Text.{Answer, Follows, Front, IsFront, Lexes, after, comment_len, front_fault, separates, token_at}
-use Rattle.hb_lex.specs.Sizes.{longest_name, longest_text, greatest_number}
 
 -- the tokens of an answer stand in the text, from `at` on, and its fault is one of the text
 abbrev pub StandsFrom : List ℕ → ℕ → Answer → Type 0

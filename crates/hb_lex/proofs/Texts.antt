@@ -5,9 +5,7 @@ use Rattle.std.proofs.{lemmas.Bool.Decides.nat_tests, lemmas.List.take_rest}
 use Rattle.hb_lex.specs.declared.kinds.TokenKind.TheVariants as k
 use Rattle.hb_lex.specs.declared.faults.LexFail.{LexFail}
 use Rattle.hb_lex.specs.Bytes.{is_line_feed, is_quote, is_backslash, is_plain, is_escape}
-use Rattle.hb_lex.specs.Literal.{is_closed, is_empty, text_fault}
-use Rattle.hb_lex.specs.Tokens.{kind_of, IsNext, BeginsNone}
-use Rattle.hb_lex.specs.Text.{front_fault}
+use Rattle.hb_lex.specs.{Literal.is_closed, Literal.is_empty, Literal.text_fault, Tokens.kind_of, Tokens.IsNext, Tokens.BeginsNone, Text.front_fault}
 use Rattle.hb_lex.proofs.Forms.{none_from, only_text, kind_of_text, empty_none}
 
 -- what the first byte of a text's inside does

@@ -1,8 +1,7 @@
 -- The values of numbers and texts.
 use Rattle.std.proofs.Common.{◌≡◌, ℕ, ◌+◌, ◌-◌, ◌<◌, ◌≤◌, List, [], ◌∷◌, length, take, drop, get_or, Bool, true, false, refl, sym, ◌∙◌, ap, arith}
 use Rattle.std.specs.Prelude.{fold}
-use Rattle.std.proofs.lemmas.Bool.{cond_both}
-use Rattle.std.proofs.lemmas.List.{at_drop_more, at_drop_all, take_rest}
+use Rattle.std.proofs.{lemmas.Bool.cond_both, lemmas.List.at_drop_more, lemmas.List.at_drop_all, lemmas.List.take_rest}
 use Rattle.hb_lex.specs.Literal.{with_digit, value_of_number, value_behind, value_of_text, is_text}
 use Rattle.hb_lex.specs.Bytes.{is_quote, is_backslash}
 

@@ -4,8 +4,7 @@ use Rattle.hb_lex.specs.declared.{kinds.TokenKind.TokenKind, faults.LexFail.LexF
 use Rattle.hb_lex.specs.declared.kinds.TokenKind.TheVariants as k
 use Rattle.hb_lex.specs.declared.faults.LexFail.TheVariants as fail
 use Rattle.hb_lex.specs.Bytes.{is_blank, is_hash, is_line_feed, is_quote}
-use Rattle.hb_lex.specs.Literal.{text_fault}
-use Rattle.hb_lex.specs.Tokens.{IsNext, BeginsNone, excess}
+use Rattle.hb_lex.specs.{Literal.text_fault, Tokens.IsNext, Tokens.BeginsNone, Tokens.excess}
 
 -- a line feed behind this token is a separator
 abbrev pub separates : Option TokenKind → Bool

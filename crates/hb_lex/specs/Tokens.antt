@@ -4,10 +4,8 @@ use Rattle.std.specs.{Option.option_or, List.list_all}
 use Rattle.hb_lex.specs.declared.{kinds.TokenKind.TokenKind, faults.LexFail.LexFail, spans.Token.Token}
 use Rattle.hb_lex.specs.declared.kinds.TokenKind.TheVariants as k
 use Rattle.hb_lex.specs.declared.faults.LexFail.TheVariants as fail
-use Rattle.hb_lex.specs.Bytes.{is_small, is_capital, is_word_byte}
+use Rattle.hb_lex.specs.{Bytes.is_small, Bytes.is_capital, Bytes.is_word_byte, Spelling.fixed, Sizes.longest_name, Sizes.longest_text, Sizes.greatest_number}
 use Rattle.hb_lex.specs.Literal.{is_number, is_text, value_of_number, value_of_text}
-use Rattle.hb_lex.specs.Spelling.{fixed}
-use Rattle.hb_lex.specs.Sizes.{longest_name, longest_text, greatest_number}
 
 -- a first byte of this sort, then letters, digits and `_`
 abbrev pub is_word : (ℕ → Bool) → List ℕ → Bool

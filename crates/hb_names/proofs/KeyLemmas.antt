@@ -4,9 +4,8 @@ use Rattle.std.proofs.Common.{None, refl, sym, ap, subst, ◌∙◌, arith, posi
 use Rattle.std.specs.Prelude.{slice_get, option_map, nat_lt, is_some}
 use Rattle.std.specs.List.{IsDistinct, list_any, position_or_len}
 use Rattle.std.proofs.lemmas.Bool.{lt-ltb, le-ltb, ltb-true, ltb-false, cases_order}
-use Rattle.std.proofs.lemmas.List.{length-map, map-append}
+use Rattle.std.proofs.{lemmas.List.length-map, lemmas.List.map-append, lemmas.Map.Keys.apart_from_distinct}
 use Rattle.std.proofs.lemmas.Option.{none-some, slice_get-map, get_or_from_slice_get, slice_get_within}
-use Rattle.std.proofs.lemmas.Map.Keys.{apart_from_distinct}
 use Rattle.indexmap.specs.IndexSet.{insert_key}
 use Rattle.hb_names.specs.Names.{Name, same, place, Differ}
 use Rattle.hb_names.proofs.NameLemmas.{same-equiv, place-test, place-within}

@@ -1,32 +1,25 @@
 -- All the way through a text the own tokens of nodes other than blocks are apart.
 use Rattle.std.proofs.Common.{◌≡◌, ℕ, zero, suc, ◌+◌, ◌<◌, ◌≤◌, List, [], ◌∷◌, ◌++◌, Bool, true, false, cond, Option, Some, None, All, length, slice_get, refl, sym, ◌∙◌, ap, subst, inl, inr, arith, add-one}
-use Rattle.std.proofs.lemmas.Bool.{cases_Bool, false≢true}
-use Rattle.std.proofs.lemmas.Option.{none-some}
+use Rattle.std.proofs.{lemmas.Bool.cases_Bool, lemmas.Bool.false≢true, lemmas.Option.none-some}
 use Rattle.hb_types.specs.declared.types.Ty.TheVariants as ty
-use Rattle.hb_lex.specs.declared.kinds.TokenKind.{TokenKind}
-use Rattle.hb_lex.specs.declared.spans.Token.{Token}
+use Rattle.hb_lex.specs.declared.{kinds.TokenKind.TokenKind, spans.Token.Token}
 use Rattle.hb_lex.specs.Tokens.{AreInOrder, Stands}
 use Rattle.hb_tree.specs.Tree.{Tree}
-use Rattle.hb_grammar.specs.declared.actions.Action.{Action}
+use Rattle.hb_grammar.specs.{Grammar.alternatives, Language.act as behind}
+use Rattle.hb_grammar.specs.declared.{actions.Action.Action, symbols.Sort.Sort, symbols.Symbol.Symbol, symbols.Symbol.TheVariants.Token as T}
+use Rattle.hb_grammar.specs.declared.{symbols.Symbol.TheVariants.Phrase as N, symbols.Symbol.TheVariants.Action as A}
 use Rattle.hb_grammar.specs.declared.actions.Action.TheVariants as a
-use Rattle.hb_grammar.specs.declared.symbols.Sort.{Sort}
-use Rattle.hb_grammar.specs.declared.symbols.Symbol.{Symbol}
-use Rattle.hb_grammar.specs.declared.symbols.Symbol.TheVariants.{Token as T, Phrase as N, Action as A}
-use Rattle.hb_grammar.specs.Grammar.{alternatives}
 use Rattle.hb_grammar.specs.Language.{Act, Translates, IsOneOf, program}
-use Rattle.hb_grammar.specs.Language.{act as behind}
+use Rattle.hb_build.specs.{Pile.Slot, Fits.State, Fits.Fits, Fits.Stands as Matches}
 use Rattle.hb_build.specs.declared.held.Spot.{Spot}
 use Rattle.hb_build.specs.Acts.{Answer, Goes, Fails, Lost, Work, act, nothing}
-use Rattle.hb_build.specs.Pile.{Slot}
-use Rattle.hb_build.specs.Fits.{State, Fits}
-use Rattle.hb_build.specs.Fits.{Stands as Matches}
 use Rattle.hb_build.specs.Follow.{act_in, and_then, bytes_in, first_byte, follow, last_of, spot_of}
 use Rattle.hb_build.proofs.FitLemmas.{fits-program, fits-token, fits-phrase, fits-goes}
-use Rattle.hb_parse.proofs.CourseLemmas.{all-at, get-some, byte-within}
+use Rattle.hb_parse.proofs.{CourseLemmas.all-at, CourseLemmas.get-some, CourseLemmas.byte-within, ApartLemmas.IsSpot, OwnLemmas.AreApart, OwnLemmas.acts-apart}
+use Rattle.hb_parse.proofs.{OwnLemmas.bound_after}
 use Rattle.hb_parse.proofs.SpareLemmas.{uses, spares, setups, setups_of, spares-phrase, spares-used, spares-unused, setups-phrase}
-use Rattle.hb_parse.proofs.ApartLemmas.{IsSpot}
-use Rattle.hb_parse.proofs.HoldLemmas.{Holds, holds-fails_if, holds-known, holds-complete, on-operand, on-closed, on-own, on-declaring, on-name, on-target, on-called, on-class, on-type, on-block, on-body, on-script, on-method}
-use Rattle.hb_parse.proofs.OwnLemmas.{AreApart, acts-apart, bound_after}
+use Rattle.hb_parse.proofs.HoldLemmas.{Holds, holds-fails_if, holds-known, holds-complete, on-operand, on-closed, on-own, on-declaring, on-name, on-target, on-called, on-class}
+use Rattle.hb_parse.proofs.HoldLemmas.{on-type, on-block, on-body, on-script, on-method}
 
 -- what holds where an answer goes on holds there
 holds-goes : (P : Work → Type 0) (answer : Answer) (v : Work) → Holds P answer → answer ≡ Goes v → P v
@@ -65,53 +58,25 @@ module _ (p : Spot) (bytes : List ℕ) (w : Work) where
 
   acts-setup : (done : Action) → Holds (KeepsSetup done w) (act done p bytes w)
   acts-setup a.EndSetup = any-answer (act a.EndSetup p bytes w)
-  acts-setup (a.HoldType ty.Nil) = refl
-  acts-setup (a.HoldType ty.Bool) = refl
-  acts-setup (a.HoldType ty.Int) = refl
-  acts-setup (a.HoldType ty.Str) = refl
-  acts-setup (a.HoldType ty.Any) = refl
   acts-setup (a.HoldType (ty.Class c)) = tt
-  acts-setup a.DeclareClass = search holds-fails_if
-  acts-setup a.BeginSetup = refl
-  acts-setup a.BeginScript = search holds-fails_if
-  acts-setup a.EndScript = search (on-closed Same Anything, on-script Same Anything, holds-fails_if)
-  acts-setup a.BeginBlock = refl
-  acts-setup a.EndBlock = search (on-block Same Anything, holds-complete)
-  acts-setup a.AddItem = search (on-operand Same Anything)
-  acts-setup a.Open = search holds-fails_if
-  acts-setup a.Close = refl
-  acts-setup a.OpenWord = search holds-fails_if
-  acts-setup a.OpenAssign = search (on-name Same Anything, holds-fails_if)
-  acts-setup a.HoldOperator = refl
-  acts-setup a.HoldStr = search holds-fails_if
-  acts-setup a.HoldDeclare = search holds-fails_if
-  acts-setup a.HoldName = search holds-fails_if
-  acts-setup a.HoldCall = search holds-fails_if
-  acts-setup a.HoldClass = search (holds-known, holds-fails_if)
-  acts-setup a.NameMethod = search (on-class Same Anything)
-  acts-setup a.ComputeMethod = search (on-operand Same Anything, on-class Same Anything)
-  acts-setup a.HoldParameter = search holds-fails_if
-  acts-setup a.BeginBody = refl
-  acts-setup a.HoldClassType = search holds-known
-  acts-setup a.AddParameterType = search (on-type Same Anything, holds-fails_if)
-  acts-setup a.AddArgument = search (on-operand Same Anything, holds-fails_if)
-  acts-setup a.PutNil = search (holds-fails_if, holds-complete)
-  acts-setup (a.PutBoolean b) = search (holds-fails_if, holds-complete)
-  acts-setup a.PutSelf = search (holds-fails_if, holds-complete)
-  acts-setup a.PutNumber = search (holds-fails_if, holds-complete)
-  acts-setup a.PutText = search (holds-fails_if, holds-complete)
-  acts-setup a.PutVariable = search (on-name Same Anything, holds-complete)
-  acts-setup a.PutNew = search (on-class Same Anything, holds-complete)
-  acts-setup a.PutAssign = search (on-operand Same Anything, on-target Same Anything, holds-complete)
-  acts-setup a.PutPrint = search (on-operand Same Anything, on-own Same Anything, holds-complete)
-  acts-setup a.PutStr = search (on-operand Same Anything, on-own Same Anything, holds-complete)
-  acts-setup a.PutNot = search (on-operand Same Anything, on-own Same Anything, holds-complete)
-  acts-setup (a.PutBinary op) = search (on-operand Same Anything, on-own Same Anything, holds-complete)
-  acts-setup a.PutIf = search (on-closed Same Anything, on-operand Same Anything, on-own Same Anything, holds-complete)
-  acts-setup a.PutWhile = search (on-closed Same Anything, on-operand Same Anything, on-own Same Anything, holds-complete)
-  acts-setup a.PutCall = search (on-called Same Anything, on-operand Same Anything, holds-complete)
-  acts-setup a.PutDef = search (on-closed Same Anything, on-body Same Anything, on-method Same Anything, on-own Same Anything, holds-complete)
-  acts-setup (a.PutDeclare asks) = search (on-type Same Anything, on-method Same Anything, on-declaring Same Anything, holds-complete)
+  acts-setup _ = search (
+    holds-fails_if,
+    on-closed Same Anything,
+    on-script Same Anything,
+    on-block Same Anything,
+    holds-complete,
+    on-operand Same Anything,
+    on-name Same Anything,
+    holds-known,
+    on-class Same Anything,
+    on-type Same Anything,
+    on-target Same Anything,
+    on-own Same Anything,
+    on-called Same Anything,
+    on-body Same Anything,
+    on-method Same Anything,
+    on-declaring Same Anything,
+  )
 
 setups-after : (done : Action) (w v : Work) → KeepsSetup done w v → setups_of (A done) + ended w.said.setup ≤ 1 → ended v.said.setup ≤ setups_of (A done) + ended w.said.setup
 setups-after a.EndSetup w v h few = omega (arith, ended-few v.said.setup)

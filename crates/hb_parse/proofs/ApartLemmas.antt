@@ -1,7 +1,6 @@
 -- Nodes that are no blocks, and those that are to come, have own tokens that begin at different bytes.
 use Rattle.std.proofs.Common.{◌≡◌, ◌⊎◌, inl, inr, ℕ, zero, suc, ◌+◌, ◌≤◌, List, [], ◌∷◌, ◌++◌, Option, Some, None, length, slice_get, refl, sym, ◌∙◌, ap, subst, arith}
-use Rattle.std.proofs.lemmas.Bool.{cases_eq}
-use Rattle.std.proofs.lemmas.Option.{none-some, same_Some}
+use Rattle.std.proofs.{lemmas.Bool.cases_eq, lemmas.Option.none-some, lemmas.Option.same_Some}
 use Rattle.hb_lex.specs.Place.{column_at, line_at}
 use Rattle.hb_build.specs.declared.held.Spot.{Spot}
 use Rattle.hb_build.specs.Follow.{spot_at}
@@ -48,27 +47,21 @@ taken-block a (Some c ∷ made) = ap (λ n. hit a c + n) (taken-block a made)
 
 made-length : (text : List ℕ) (made : List (Option ℕ)) (places : List (ℕ × ℕ)) → AreMade text made places → length made ≡ length places
 made-length text [] [] h = refl
-made-length text [] (place ∷ places) h = absurd h
-made-length text (None ∷ made) [] h = absurd h
-made-length text (Some b ∷ made) [] h = absurd h
 made-length text (None ∷ made) (place ∷ places) h = ap suc (made-length text made places h)
 made-length text (Some b ∷ made) (place ∷ places) h = ap suc (made-length text made places h.2)
+made-length _ _ _ h = absurd h
 
 made-more : (text : List ℕ) (made : List (Option ℕ)) (places : List (ℕ × ℕ)) (p : Spot) → IsSpot text p → AreMade text made places → AreMade text (made ++ Some p.at ∷ []) (places ++ (p.line, p.column) ∷ [])
 made-more text [] [] p is h = (is.1, ap (λ (q : Spot). (q.line, q.column)) is.0, tt)
-made-more text [] (place ∷ places) p is h = absurd h
-made-more text (None ∷ made) [] p is h = absurd h
-made-more text (Some b ∷ made) [] p is h = absurd h
 made-more text (None ∷ made) (place ∷ places) p is h = made-more text made places p is h
 made-more text (Some b ∷ made) (place ∷ places) p is h = (h.0, h.1, made-more text made places p is h.2)
+made-more _ _ _ _ _ h = absurd h
 
 made-block : (text : List ℕ) (made : List (Option ℕ)) (places : List (ℕ × ℕ)) (place : ℕ × ℕ) → AreMade text made places → AreMade text (made ++ None ∷ []) (places ++ place ∷ [])
 made-block text [] [] place h = tt
-made-block text [] (other ∷ places) place h = absurd h
-made-block text (None ∷ made) [] place h = absurd h
-made-block text (Some b ∷ made) [] place h = absurd h
 made-block text (None ∷ made) (other ∷ places) place h = made-block text made places place h
 made-block text (Some b ∷ made) (other ∷ places) place h = (h.0, h.1, made-block text made places place h.2)
+made-block _ _ _ _ h = absurd h
 
 get-more : {X : Type 0} (xs : List X) (x y : X) (k : ℕ) → slice_get (xs ++ x ∷ []) k ≡ Some y → (slice_get xs k ≡ Some y) ⊎ ((k ≡ length xs) × (x ≡ y))
 get-more [] x y zero e = inr (refl, same_Some x y e)
@@ -153,10 +146,8 @@ made-apart (Some c ∷ made) (suc i) (suc j) b e f le = ap suc (made-apart made 
 pub made-at : (text : List ℕ) (made : List (Option ℕ)) (places : List (ℕ × ℕ)) (i : ℕ) (place : ℕ × ℕ) → AreMade text made places → slice_get places i ≡ Some place
     → (slice_get made i ≡ Some None) ⊎ ((b : ℕ) × (slice_get made i ≡ Some (Some b)) × (b ≤ length text) × (place ≡ (line_at text b, column_at text b)))
 made-at text [] [] i place h e = absurd (none-some place e)
-made-at text [] (first ∷ places) i place h e = absurd h
-made-at text (None ∷ made) [] i place h e = absurd h
-made-at text (Some b ∷ made) [] i place h e = absurd h
 made-at text (None ∷ made) (first ∷ places) zero place h e = inl refl
 made-at text (Some b ∷ made) (first ∷ places) zero place h e = inr (b, refl, h.0, sym (same_Some first place e) ∙ h.1)
 made-at text (None ∷ made) (first ∷ places) (suc i) place h e = made-at text made places i place h e
 made-at text (Some b ∷ made) (first ∷ places) (suc i) place h e = made-at text made places i place h.2 e
+made-at _ _ _ _ _ h _ = absurd h

@@ -1,16 +1,14 @@
 -- How often a block of this number occurs in trees.
 use Rattle.std.proofs.Common.{◌≡◌, ℕ, zero, suc, ◌+◌, List, [], ◌∷◌, ◌++◌, cond, nat_eq, Option, Some, None, slice_get, option_map, map, refl, ap, subst, ◌∙◌, arith}
 use Rattle.std.proofs.lemmas.Bool.{cond-true, cond-false, eq-eqb, ne_eqb}
-use Rattle.hb_types.specs.declared.ids.NameId.{NameId}
-use Rattle.hb_types.specs.declared.ids.NodeId.{NodeId}
+use Rattle.hb_types.specs.declared.{ids.NameId.NameId, ids.NodeId.NodeId}
+use Rattle.hb_tree.specs.{Table.Table, Program.IsExprNode}
 use Rattle.hb_tree.specs.declared.node.Node.{Node}
 use Rattle.hb_tree.specs.declared.node.Node.TheVariants as node
 use Rattle.hb_tree.specs.declared.node.Method.TheVariants as method
-use Rattle.hb_tree.specs.Table.{Table}
 use Rattle.hb_tree.specs.Tree.{Tree, TAssign, TPrint, TToStr, TNot, TBinary, TIf, TWhile, TCall, TDef, TDefComputed, TDeclareComputed, TBlock, Forest, NoTree, Trees}
 use Rattle.hb_tree.specs.Nodes.{node_at, args_of, items_of, block_in}
 use Rattle.hb_tree.specs.TreeAt.{forest_at, tree_of, tree_of_place, tree_down, tree_at}
-use Rattle.hb_tree.specs.Program.{IsExprNode}
 use Rattle.hb_draft.specs.Unfinished.{forest_of, setup_in, scripts_in}
 
 -- ── two numbers that are one ──
@@ -84,14 +82,6 @@ module _ (t : Table) (k : ℕ) (expr : IsExprNode (node_at t k)) where
   block-none id first count is = hit-other k id (λ e. subst IsExprNode (ap (node_at t) e ∙ is) expr)
 
   node-none : (part : ℕ → Tree) (id : ℕ) (n : Node) → node_at t id ≡ Some n → HasNone part → blocks k (tree_of t part id n) ≡ 0
-  node-none part id node.Nil is none = refl
-  node-none part id node.True is none = refl
-  node-none part id node.False is none = refl
-  node-none part id node.SelfRef is none = refl
-  node-none part id (node.Int n) is none = refl
-  node-none part id (node.Text x) is none = refl
-  node-none part id (node.Var x) is none = refl
-  node-none part id (node.New c) is none = refl
   node-none part id (node.Assign x e) is none = none e.0
   node-none part id (node.Print e) is none = none e.0
   node-none part id (node.ToStr e) is none = none e.0
@@ -102,9 +92,9 @@ module _ (t : Table) (k : ℕ) (expr : IsExprNode (node_at t k)) where
   node-none part id (node.Call r m args) is none = omega (arith, none r.0, forest-none part (args_of args) none)
   node-none part id (node.Def (method.Named c m) s) is none = none (block_in (slice_get t.bodies s.0))
   node-none part id (node.Def (method.Computed c e) s) is none = omega (arith, none e.0, none (block_in (slice_get t.bodies s.0)))
-  node-none part id (node.Declare (method.Named c m) s q) is none = refl
   node-none part id (node.Declare (method.Computed c e) s q) is none = none e.0
   node-none part id (node.Block first count) is none = omega (arith, block-none id first count is, forest-none part (items_of t first count) none)
+  node-none _ _ _ _ _ = refl
 
   place-none : (part : ℕ → Tree) (id : ℕ) (o : Option Node) → node_at t id ≡ o → HasNone part → blocks k (tree_of_place t part id o) ≡ 0
   place-none part id None is none = refl

@@ -1,42 +1,29 @@
 -- The loop of the parser: what it keeps from action to action, and where it ends.
 use Rattle.std.proofs.Common.{◌≡◌, inl, inr, ℕ, zero, suc, ◌+◌, ◌-◌, ◌<◌, ◌≤◌, List, [], ◌∷◌, ◌++◌, Option, Some, refl, sym, ◌∙◌, ap, subst, length, drop, slice_get, arith, add-one, append_assoc, length-drop}
-use Rattle.std.specs.Prelude.{All, IfSome}
-use Rattle.std.specs.Prelude.{slice_index_or}
-use Rattle.std.proofs.lemmas.Option.{slice_get_within}
-use Rattle.std.proofs.lemmas.List.{length-map, append-nil}
-use Rattle.hb_lex.specs.declared.kinds.TokenKind.{TokenKind}
-use Rattle.hb_lex.specs.declared.spans.Token.{Token}
+use Rattle.std.specs.{Prelude.All, Prelude.IfSome, Prelude.slice_index_or}
+use Rattle.std.proofs.{lemmas.Option.slice_get_within, lemmas.List.length-map, lemmas.List.append-nil}
+use Rattle.hb_lex.specs.declared.{kinds.TokenKind.TokenKind, spans.Token.Token}
 use Rattle.hb_lex.specs.Tokens.{AreInOrder, Stands, bytes_of}
-use Rattle.hb_grammar.specs.declared.actions.Action.{Action}
-use Rattle.hb_grammar.specs.declared.symbols.Sort.{Sort}
-use Rattle.hb_grammar.specs.declared.symbols.Symbol.{Symbol}
-use Rattle.hb_grammar.specs.declared.symbols.Symbol.TheVariants.{Token as T, Phrase as N, Action as A}
-use Rattle.hb_grammar.specs.declared.wanted.Wanted.{Wanted}
-use Rattle.hb_grammar.specs.Grammar.{alternatives}
+use Rattle.hb_grammar.specs.{Grammar.alternatives, Sight.run}
+use Rattle.hb_grammar.specs.declared.{actions.Action.Action, symbols.Sort.Sort, symbols.Symbol.Symbol, symbols.Symbol.TheVariants.Token as T}
+use Rattle.hb_grammar.specs.declared.{symbols.Symbol.TheVariants.Phrase as N, symbols.Symbol.TheVariants.Action as A, wanted.Wanted.Wanted}
 use Rattle.hb_grammar.specs.Language.{Act, act, HasFirstActions, kinds_of, program}
 use Rattle.hb_grammar.specs.Sight.{choice, front, Does, Outcome, Unfinished, Done, Missed}
 use Rattle.hb_grammar.specs.Course.{Course, ComesTo, StopsAt, Turns, left, start_of}
-use Rattle.hb_grammar.specs.Sight.{run}
-use Rattle.hb_grammar.proofs.ExactLemmas.{is_choice, ends_at, left_at_most}
-use Rattle.hb_grammar.proofs.CourseLemmas.{Leads-keep, Does-comes}
+use Rattle.hb_grammar.proofs.{ExactLemmas.is_choice, ExactLemmas.ends_at, ExactLemmas.left_at_most, CourseLemmas.Leads-keep, CourseLemmas.Does-comes}
 use Rattle.hb_grammar.proofs.ActionLemmas.{has_actions, has_first_actions, ends, Ends}
-use Rattle.hb_build.specs.declared.builder.Builder.{Builder}
-use Rattle.hb_build.specs.declared.faults.ParseFail.{ParseFail}
-use Rattle.hb_build.specs.declared.held.Spot.{Spot}
-use Rattle.hb_build.specs.Needs.{HasToken}
+use Rattle.hb_build.specs.{Needs.HasToken, Acts.act as perform, Ready.Ready, Sound.IsSound, Sound.work_of}
+use Rattle.hb_build.specs.declared.{builder.Builder.Builder, faults.ParseFail.ParseFail, held.Spot.Spot}
 use Rattle.hb_build.specs.Acts.{Answer, Goes, Fails, Work, nothing}
-use Rattle.hb_build.specs.Acts.{act as perform}
 use Rattle.hb_build.specs.Follow.{and_then, bytes_in, first_byte, follow, last_of, spot_at, spot_of}
-use Rattle.hb_build.specs.Ready.{Ready}
-use Rattle.hb_build.specs.Sound.{IsSound, work_of}
 use Rattle.hb_build.proofs.ReadyLemmas.{ready-start, ready-token, ready-phrase, ready-goes}
+use Rattle.hb_parse.proofs.{FollowLemmas.follow-append, FollowLemmas.follow-last, TokenLemmas.token-has}
 use Rattle.hb_parse.specs.Text.{AreActions, IsFound, Says}
-use Rattle.hb_parse.proofs.FollowLemmas.{follow-append, follow-last}
-use Rattle.hb_parse.proofs.TokenLemmas.{token-has}
 
 -- ── a token that is read ──
 
-pub read-kind : (tokens : List Token) (n : ℕ) (j : TokenKind) (rest : List TokenKind) → drop n (kinds_of tokens) ≡ j ∷ rest → (t : Token) × (slice_get tokens n ≡ Some t) × (t.kind ≡ j) × (drop (suc n) (kinds_of tokens) ≡ rest)
+pub read-kind : (tokens : List Token) (n : ℕ) (j : TokenKind) (rest : List TokenKind) → drop n (kinds_of tokens) ≡ j ∷ rest
+    → (t : Token) × (slice_get tokens n ≡ Some t) × (t.kind ≡ j) × (drop (suc n) (kinds_of tokens) ≡ rest)
 read-kind [] zero j rest e = absurd (cc)
 read-kind [] (suc n) j rest e = absurd (cc)
 read-kind (t ∷ tokens) zero j rest e = (t, refl, cc, cc)
@@ -121,7 +108,8 @@ kept-next text tokens old new a b c spot k standing comes goes sound = record {
   spot_is = refl;
 }
 
-pub kept-start : (text : List ℕ) (tokens : List Token) (b : Builder) (course : Course) (spot : Spot) → course ≡ start_of tokens → IsSound b → work_of b ≡ nothing → spot ≡ spot_of text (last_of tokens 0) → Kept text tokens course b spot
+pub kept-start : (text : List ℕ) (tokens : List Token) (b : Builder) (course : Course) (spot : Spot) → course ≡ start_of tokens → IsSound b → work_of b ≡ nothing
+    → spot ≡ spot_of text (last_of tokens 0) → Kept text tokens course b spot
 kept-start text tokens b course spot is sound empty here =
     let at_start : Kept text tokens (start_of tokens) b spot = record {
       same = refl;
@@ -139,7 +127,8 @@ kept-start text tokens b course spot is sound empty here =
 
 -- ── where it ends ──
 
-pub at-the-end : (text : List ℕ) (tokens : List Token) (course : Course) (b : Builder) (spot : Spot) (k : Kept text tokens course b spot) → Does course.ahead course.read (left course) [] Done → Says text tokens (work_of b).said
+pub at-the-end : (text : List ℕ) (tokens : List Token) (course : Course) (b : Builder) (spot : Spot) (k : Kept text tokens course b spot) → Does course.ahead course.read (left course) [] Done
+    → Says text tokens (work_of b).said
 at-the-end text tokens course b spot k does = record {
   done = k.done;
   actions = has_actions tokens k.done (subst (λ (x : List Act). Does program 0 (kinds_of tokens) x Done) (append-nil k.done) (k.comes [] Done does));
@@ -152,7 +141,8 @@ left-is : (tokens : List Token) (c : Course) → c.tokens ≡ tokens → c.read 
 left-is tokens c same within =
     omega (arith, length-drop c.read (kinds_of c.tokens), length-map c.tokens (λ token. token.kind), within, ap length same)
 
-pub at-a-miss : (text : List ℕ) (tokens : List Token) (old new : Course) (b : Builder) (spot : Spot) (w : Wanted) (k : Kept text tokens old b spot) → StopsAt old w new → HasFirstActions (kinds_of tokens) new.read w k.done
+pub at-a-miss : (text : List ℕ) (tokens : List Token) (old new : Course) (b : Builder) (spot : Spot) (w : Wanted) (k : Kept text tokens old b spot) → StopsAt old w new
+    → HasFirstActions (kinds_of tokens) new.read w k.done
 at-a-miss text tokens old new b spot w k stops =
     let whole : Does program 0 (kinds_of tokens) (k.done ++ []) (Missed w (length (left new))) = k.comes [] (Missed w (length (left new))) stops.does in
     let done : Does program 0 (kinds_of tokens) k.done (Missed w (length (left new))) = subst (λ (x : List Act). Does program 0 (kinds_of tokens) x (Missed w (length (left new)))) (append-nil k.done) whole in
@@ -207,7 +197,8 @@ from-after text at (x ∷ tokens) (suc n) t ordered standing e =
     let h : x.to ≤ t.from = from-after text x.to tokens n t ordered.1 (λ m d lt. standing (suc m) d (omega (arith, lt))) e in
     omega (arith, h, first.some, ordered.0)
 
-two-in-order : (text : List ℕ) (at : ℕ) (tokens : List Token) (n m : ℕ) (s t : Token) → AreInOrder at tokens → All (Stands text) tokens → n ≤ m → slice_get tokens n ≡ Some s → slice_get tokens m ≡ Some t → s.from ≤ t.from
+two-in-order : (text : List ℕ) (at : ℕ) (tokens : List Token) (n m : ℕ) (s t : Token) → AreInOrder at tokens → All (Stands text) tokens → n ≤ m → slice_get tokens n ≡ Some s
+    → slice_get tokens m ≡ Some t → s.from ≤ t.from
 two-in-order text at [] n m s t ordered standing le e f = absurd (cc)
 two-in-order text at (x ∷ tokens) zero zero s t ordered standing le e f = let same : s ≡ t = cc in subst (λ (y : Token). s.from ≤ y.from) same (omega arith)
 two-in-order text at (x ∷ tokens) zero (suc m) s t ordered standing le e f =
@@ -249,27 +240,28 @@ byte-within text tokens (suc n) standing within =
 
 -- ── what the code read ──
 
-pub spot-here : (text : List ℕ) (tokens : List Token) (spot : Spot) (at : ℕ) (token : Option Token) (read n : ℕ) → spot ≡ spot_at text at → at ≡ first_byte token → token ≡ last_of tokens read → read ≡ n → spot ≡ spot_of text (last_of tokens n)
+pub spot-here : (text : List ℕ) (tokens : List Token) (spot : Spot) (at : ℕ) (token : Option Token) (read n : ℕ) → spot ≡ spot_at text at → at ≡ first_byte token → token ≡ last_of tokens read
+    → read ≡ n → spot ≡ spot_of text (last_of tokens n)
 spot-here text tokens spot at token read n e f g h = e ∙ ap (spot_at text) (f ∙ ap first_byte (g ∙ ap (last_of tokens) h))
 
-pub bytes-here : (text : List ℕ) (tokens : List Token) (bytes : List ℕ) (token : Option Token) (read n : ℕ) → bytes ≡ bytes_in text token → token ≡ last_of tokens read → read ≡ n → bytes ≡ bytes_in text (last_of tokens n)
+pub bytes-here : (text : List ℕ) (tokens : List Token) (bytes : List ℕ) (token : Option Token) (read n : ℕ) → bytes ≡ bytes_in text token → token ≡ last_of tokens read → read ≡ n
+    → bytes ≡ bytes_in text (last_of tokens n)
 bytes-here text tokens bytes token read n e g h = e ∙ ap (bytes_in text) (g ∙ ap (last_of tokens) h)
 
 -- fewer tokens are left
 fewer-left : (n : ℕ) (s : List Symbol) (ts : List TokenKind) (s' : List Symbol) (ts' : List TokenKind) → Turns n s ts s' ts' → length ts' ≤ length ts
 fewer-left zero s ts s' ts' h = omega (arith, ap length h.1)
-fewer-left (suc n) [] ts s' ts' h = absurd h
-fewer-left (suc n) (T j ∷ s) [] s' ts' h = absurd h
 fewer-left (suc n) (T j ∷ s) (t ∷ ts) s' ts' h = let k : length ts' ≤ length ts = fewer-left n s ts s' ts' h.1 in omega (arith, k)
-fewer-left (suc n) (A a ∷ s) ts s' ts' h = absurd h
 fewer-left (suc n) (N x ∷ s) ts s' ts' h = fewer-left n (choice (alternatives x) (front ts) ++ s) ts s' ts' h
+fewer-left _ _ _ _ _ h = absurd h
 
 further : (old new : Course) (a : Action) → ComesTo old a new → old.read ≤ new.read
 further old new a comes =
     let h : length (left new) ≤ length (left old) = fewer-left comes.reached.turns old.ahead (left old) (A a ∷ new.ahead) (left new) comes.reached.way in
     omega (arith, h, comes.read)
 
-pub at-order : (text : List ℕ) (tokens : List Token) (old new : Course) (a : Action) (b : Builder) (spot : Spot) (k : Kept text tokens old b spot) → AreInOrder 0 tokens → All (Stands text) tokens → ComesTo old a new → spot.at ≤ first_byte (last_of tokens new.read)
+pub at-order : (text : List ℕ) (tokens : List Token) (old new : Course) (a : Action) (b : Builder) (spot : Spot) (k : Kept text tokens old b spot) → AreInOrder 0 tokens → All (Stands text) tokens
+    → ComesTo old a new → spot.at ≤ first_byte (last_of tokens new.read)
 at-order text tokens old new a b spot k ordered standing comes =
     let new_within : new.read ≤ length tokens = subst (λ (x : List Token). new.read ≤ length x) (comes.tokens ∙ k.same) comes.within in
     let more : old.read ≤ new.read = further old new a comes in

@@ -1,30 +1,17 @@
 -- Nodes other than blocks of a program that a text says have different places.
 use Rattle.std.proofs.Common.{◌≡◌, ℕ, ◌+◌, ◌≤◌, List, [], ◌∷◌, Option, Some, None, Ok, All, length, slice_get, option_map, refl, sym, ◌∙◌, ap, subst, subst₂, inl, inr, arith}
-use Rattle.std.proofs.lemmas.List.{length-map}
-use Rattle.std.proofs.lemmas.Option.{same_Some, slice_get-map}
+use Rattle.std.proofs.{lemmas.List.length-map, lemmas.Option.same_Some, lemmas.Option.slice_get-map}
+use Rattle.hb_lex.specs.{Place.column_at, Place.line_at, Text.HasTokens, Tokens.AreInOrder, Tokens.Stands}
 use Rattle.hb_lex.specs.declared.spans.Token.{Token}
-use Rattle.hb_lex.specs.Place.{column_at, line_at}
-use Rattle.hb_lex.specs.Text.{HasTokens}
-use Rattle.hb_lex.specs.Tokens.{AreInOrder, Stands}
 use Rattle.hb_lex.proofs.Standing.{stands_from}
+use Rattle.hb_tree.specs.{Table.Table, Nodes.node_at, Nodes.place_at, Program.IsExprNode}
 use Rattle.hb_tree.specs.declared.node.Placed.{Placed}
-use Rattle.hb_tree.specs.Table.{Table}
-use Rattle.hb_tree.specs.Nodes.{node_at, place_at}
-use Rattle.hb_tree.specs.Program.{IsExprNode}
 use Rattle.hb_draft.specs.Made.{place_of}
 use Rattle.hb_grammar.specs.Language.{program, kinds_of}
-use Rattle.hb_build.specs.Acts.{nothing}
-use Rattle.hb_build.specs.Fits.{Stands as Matches}
-use Rattle.hb_build.specs.Pile.{Slot}
-use Rattle.hb_build.specs.Said.{Said, said_in}
-use Rattle.hb_parse.specs.Places.{HasDifferentPlaces}
-use Rattle.hb_parse.specs.Text.{IsProgramOf}
-use Rattle.hb_parse.proofs.LineLemmas.{one-byte}
-use Rattle.hb_parse.proofs.BlockCounts.{setup-none, scripts-none}
-use Rattle.hb_parse.proofs.ApartLemmas.{made-at, made-apart, taken}
-use Rattle.hb_parse.proofs.LaidLemmas.{IsLaid}
-use Rattle.hb_parse.proofs.OwnLemmas.{none}
-use Rattle.hb_parse.proofs.AlongLemmas.{Along, along-start, along-all}
+use Rattle.hb_parse.proofs.{LineLemmas.one-byte, BlockCounts.setup-none, BlockCounts.scripts-none, LaidLemmas.IsLaid, OwnLemmas.none}
+use Rattle.hb_parse.specs.{Places.HasDifferentPlaces, Text.IsProgramOf}
+use Rattle.hb_parse.proofs.{ApartLemmas.made-at, ApartLemmas.made-apart, ApartLemmas.taken, AlongLemmas.Along, AlongLemmas.along-start, AlongLemmas.along-all}
+use Rattle.hb_build.specs.{Acts.nothing, Fits.Stands as Matches, Pile.Slot, Said.Said, Said.said_in}
 
 empty : (pile : List Slot) → Matches [] pile → pile ≡ []
 empty [] h = refl

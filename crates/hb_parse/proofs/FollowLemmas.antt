@@ -10,7 +10,7 @@ then-then (Goes w) f g = refl
 then-then (Fails fault) f g = refl
 then-then Lost f g = refl
 
-then-same : (answer : Answer) (f g : Work → Answer) → ((w : Work) → f w ≡ g w) → and_then answer f ≡ and_then answer g
+pub then-same : (answer : Answer) (f g : Work → Answer) → ((w : Work) → f w ≡ g w) → and_then answer f ≡ and_then answer g
 then-same (Goes w) f g same = same w
 then-same (Fails fault) f g same = refl
 then-same Lost f g same = refl

@@ -2,10 +2,10 @@
 use Rattle.std.specs.Prelude.{ℕ, List, ◌∷◌, ◌++◌, [], Bool, true, false, Option, Some, None, length}
 use Rattle.hb_types.specs.declared.types.Ty.{Ty}
 use Rattle.hb_tree.specs.Tree.{Tree}
-use Rattle.hb_build.specs.declared.held.Spot.{Spot}
-use Rattle.hb_build.specs.declared.faults.ParseFail.{ParseFail}
+use Rattle.hb_build.specs.declared.{held.Spot.Spot, faults.ParseFail.ParseFail}
 use Rattle.hb_build.specs.Pile.{Slot, Operand, Closed, Own, Declaring, Word, Target, Called, OfClass, Named, Computed, OfType, Block, Body, Setup, Script}
-use Rattle.hb_build.specs.Acts.{Work, Answer, Goes, with_operand, with_closed, with_own, with_declaring, with_name, with_target, with_called, with_class, with_type, with_block, with_body, with_setup, with_script, with_method, with_known, fails_if, unless, complete}
+use Rattle.hb_build.specs.Acts.{Work, Answer, Goes, with_operand, with_closed, with_own, with_declaring, with_name, with_target, with_called, with_class, with_type, with_block}
+use Rattle.hb_build.specs.Acts.{with_body, with_setup, with_script, with_method, with_known, fails_if, unless, complete}
 
 -- where the answer goes on, this holds of its work
 abbrev pub Holds : (Work → Type 0) → Answer → Type 0

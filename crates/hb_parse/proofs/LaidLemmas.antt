@@ -2,7 +2,8 @@
 use Rattle.std.proofs.Common.{◌≡◌, ℕ, ◌+◌, List, [], ◌∷◌, refl, arith}
 use Rattle.hb_draft.specs.Unfinished.{forest_of}
 use Rattle.hb_build.specs.Said.{Said}
-use Rattle.hb_build.specs.Pile.{Slot, Operand, Closed, Item, Argument, Own, Declaring, Word, Target, Called, OfClass, Computed, Parameter, ParameterType, items_on, below_items, arguments_on, below_arguments, below_parameters, below_types}
+use Rattle.hb_build.specs.Pile.{Slot, Operand, Closed, Item, Argument, Own, Declaring, Word, Target, Called, OfClass, Computed, Parameter, ParameterType, items_on, below_items}
+use Rattle.hb_build.specs.Pile.{arguments_on, below_arguments, below_parameters, below_types}
 use Rattle.hb_parse.proofs.BlockCounts.{hit, blocks, blocks_in_all, blocks-more, blocks_of_setup, blocks_of_scripts}
 use Rattle.hb_parse.proofs.ApartLemmas.{Apart, IsSpot}
 

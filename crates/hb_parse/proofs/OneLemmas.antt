@@ -1,26 +1,14 @@
 -- Tokens of a text say one program or have one first fault, and never both.
 use Rattle.std.proofs.Common.{◌≡◌, inl, inr, ℕ, zero, suc, List, [], ◌∷◌, ◌+◌, ◌++◌, sym, ◌∙◌, ap, ap₂, slice_get}
-use Rattle.hb_lex.specs.declared.kinds.TokenKind.{TokenKind}
-use Rattle.hb_lex.specs.declared.spans.Token.{Token}
-use Rattle.hb_grammar.specs.declared.symbols.Symbol.{Symbol}
-use Rattle.hb_grammar.specs.declared.symbols.Symbol.TheVariants.{Token as T, Phrase as N, Action as A}
+use Rattle.hb_lex.specs.declared.{kinds.TokenKind.TokenKind, spans.Token.Token}
+use Rattle.hb_grammar.specs.declared.{symbols.Symbol.Symbol, symbols.Symbol.TheVariants.Token as T, symbols.Symbol.TheVariants.Phrase as N, symbols.Symbol.TheVariants.Action as A}
 use Rattle.hb_grammar.specs.Language.{Act, Derives, Translates, HasActions, IsProgramText, kinds_of}
-use Rattle.hb_grammar.proofs.OneLemmas.{apart, one-place, one-wanted}
-use Rattle.hb_grammar.proofs.ActionLemmas.{one_actions, one_first_actions}
+use Rattle.hb_grammar.proofs.{OneLemmas.apart, OneLemmas.one-place, OneLemmas.one-wanted, ActionLemmas.one_actions, ActionLemmas.one_first_actions, ActionLemmas.derives-translates}
+use Rattle.hb_build.specs.{Follow.follow, Said.Said}
 use Rattle.hb_build.specs.declared.faults.ParseFail.{ParseFail}
 use Rattle.hb_build.specs.declared.faults.ParseFail.TheVariants as fail
 use Rattle.hb_build.specs.Acts.{Answer, Goes, Fails, Work, nothing}
-use Rattle.hb_build.specs.Follow.{follow}
-use Rattle.hb_build.specs.Said.{Said}
 use Rattle.hb_parse.specs.Text.{AreActions, IsFault, IsFound, IsMissed, Says, byte_of}
-
--- tokens that have the actions of a program are one's
-derives-translates : (n : ℕ) (stack : List Symbol) (at : ℕ) (tokens : List TokenKind) (done : List Act) → Translates n stack at tokens done → Derives n stack tokens
-derives-translates zero stack at tokens done d = absurd d
-derives-translates (suc n) [] at tokens done d = d.0
-derives-translates (suc n) (T j ∷ stack) at tokens done d = (d.0, d.1, derives-translates n stack (at + 1) d.0 done d.2)
-derives-translates (suc n) (A a ∷ stack) at tokens done d = derives-translates n stack at tokens d.0 d.2
-derives-translates (suc n) (N sort ∷ stack) at tokens done d = (d.0, d.1, derives-translates n (d.0 ++ stack) at tokens done d.2)
 
 is_program : (tokens : List Token) (done : List Act) → HasActions (kinds_of tokens) done → IsProgramText (kinds_of tokens)
 is_program tokens done h = (h.0, derives-translates h.0 _ 0 (kinds_of tokens) done h.1)

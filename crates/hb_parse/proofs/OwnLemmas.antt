@@ -3,21 +3,21 @@ use Rattle.std.proofs.Common.{◌≡◌, ℕ, pos, ◌+◌, ◌≤◌, List, [],
 use Rattle.hb_lex.specs.Literal.{value_of_number, value_of_text}
 use Rattle.hb_types.specs.declared.types.Ty.TheVariants as ty
 use Rattle.hb_tree.specs.Tree.{Tree, TNil, TSelf, TInt, TText, TVar, TNew, TAssign, TPrint, TToStr, TNot, TBinary, TIf, TWhile, TCall, TDef, TDefComputed, TDeclare, TDeclareComputed, TBlock}
-use Rattle.hb_draft.specs.Unfinished.{forest_of}
-use Rattle.hb_draft.specs.Words.{with_word}
-use Rattle.hb_draft.specs.Made.{word_number}
-use Rattle.hb_grammar.specs.declared.actions.Action.{Action}
+use Rattle.hb_grammar.specs.declared.{actions.Action.Action, symbols.Symbol.TheVariants.Action as A}
 use Rattle.hb_grammar.specs.declared.actions.Action.TheVariants as a
-use Rattle.hb_grammar.specs.declared.symbols.Symbol.TheVariants.{Action as A}
 use Rattle.hb_build.specs.declared.held.Spot.{Spot}
 use Rattle.hb_build.specs.Said.{Said}
-use Rattle.hb_build.specs.Pile.{Slot, Operand, Closed, Own, Declaring, Word, Target, Called, OfClass, Named, Computed, OfType, Body, items_on, below_items, arguments_on, below_arguments, parameters_on, below_parameters, types_on, below_types, is_full}
+use Rattle.hb_build.specs.Pile.{Slot, Operand, Closed, Own, Declaring, Word, Target, Called, OfClass, Named, Computed, OfType, Body, items_on, below_items, arguments_on}
+use Rattle.hb_build.specs.Pile.{below_arguments, parameters_on, below_parameters, types_on, below_types, is_full}
 use Rattle.hb_build.specs.Acts.{Work, act, leaf, boolean, complete, closed, number, giving, typing, method_ty}
 use Rattle.hb_parse.proofs.SpareLemmas.{uses, setups_of}
 use Rattle.hb_parse.proofs.BlockCounts.{hit, hit-same, blocks, blocks_in_all, blocks_of_setup, scripts-more}
 use Rattle.hb_parse.proofs.ApartLemmas.{Apart, IsSpot, apart-same, apart-node, apart-block, apart-used}
-use Rattle.hb_parse.proofs.LaidLemmas.{IsLaid, AreSpots, coming, blocks_on, blocks_said, coming-items, coming-arguments, coming-parameters, coming-types, spots-items, spots-arguments, spots-parameters, spots-types, blocks-items, blocks-arguments, blocks-parameters, blocks-types}
-use Rattle.hb_parse.proofs.HoldLemmas.{Holds, holds-fails_if, holds-known, holds-complete, on-operand, on-closed, on-own, on-declaring, on-name, on-target, on-called, on-class, on-type, on-block, on-body, on-setup, on-script, on-method}
+use Rattle.hb_parse.proofs.LaidLemmas.{IsLaid, AreSpots, coming, blocks_on, blocks_said, coming-items, coming-arguments, coming-parameters, coming-types, spots-items}
+use Rattle.hb_parse.proofs.LaidLemmas.{spots-arguments, spots-parameters, spots-types, blocks-items, blocks-arguments, blocks-parameters, blocks-types}
+use Rattle.hb_parse.proofs.HoldLemmas.{Holds, holds-fails_if, holds-known, holds-complete, on-operand, on-closed, on-own, on-declaring, on-name, on-target, on-called, on-class}
+use Rattle.hb_parse.proofs.HoldLemmas.{on-type, on-block, on-body, on-setup, on-script, on-method}
+use Rattle.hb_draft.specs.{Unfinished.forest_of, Words.with_word, Made.word_number}
 
 abbrev pub none : ℕ → ℕ
 none k = 0
@@ -128,20 +128,17 @@ module _ (text : List ℕ) (bound : ℕ) where
       pub acts-apart : (done : Action) → (uses done ≡ true → bound ≤ p.at) → (1 ≤ setups_of (A done) → w.said.setup ≡ None)
           → Holds (AreApart text (bound_after done p bound)) (act done p bytes w)
       acts-apart a.DeclareClass free one = search (holds-fails_if, h)
-      acts-apart a.BeginSetup free one = h
       acts-apart a.EndSetup free one =
           on-closed Kept On w.pile _ h (λ b r h. on-setup Kept (λ r. On (Closed b ∷ r)) r _ h (λ r h. laid-setup w.said b r (one (omega arith)) h))
       acts-apart a.BeginScript free one = search (holds-fails_if, h)
       acts-apart a.EndScript free one =
           on-closed Kept On w.pile _ h (λ b r h. on-script Kept (λ r. On (Closed b ∷ r)) r _ h (λ x r h. let laid = laid-script w.said x b r h in search (holds-fails_if, laid)))
-      acts-apart a.BeginBlock free one = h
       acts-apart a.EndBlock free one =
           on-block Kept (IsLaid text bound w.said (λ k. blocks_in_all k (forest_of (items_on w.pile)))) (below_items w.pile) _
           (laid-below w.said (λ k. blocks_in_all k (forest_of (items_on w.pile))) w.pile (below_items w.pile) h (spots-items text w.pile h.1) (λ k. blocks-items k w.pile) (λ a. coming-items a w.pile))
           (λ r h. holds-complete Kept p (λ id. TBlock id (forest_of (items_on w.pile))) Closed r w (laid-block w.said (items_on w.pile) r (p.line, p.column) h))
       acts-apart a.AddItem free one = on-operand Kept On w.pile _ h (λ e r h. h)
       acts-apart a.Open free one = search (holds-fails_if, h)
-      acts-apart a.Close free one = h
       acts-apart a.OpenWord free one = let used = laid-used w.said w.pile h (free refl) in search (holds-fails_if, used)
       acts-apart a.OpenAssign free one = on-name Used On w.pile _ h (λ x q r h.
           let used = laid-used w.said r (laid-same w.said none (Word x q ∷ r) r h h.1.1 (λ k. omega arith) (λ a. omega arith)) (free refl) in
@@ -156,12 +153,6 @@ module _ (text : List ℕ) (bound : ℕ) where
       acts-apart a.ComputeMethod free one = on-operand Kept On w.pile _ h (λ e r h. on-class Kept (λ r. On (Operand e ∷ r)) r _ h (λ c q r h.
           laid-same w.said none (Operand e ∷ OfClass c q ∷ r) (Computed c e ∷ r) h h.1.1 (λ k. omega arith) (λ a. omega arith)))
       acts-apart a.HoldParameter free one = search (holds-fails_if, h)
-      acts-apart a.BeginBody free one = h
-      acts-apart (a.HoldType ty.Nil) free one = h
-      acts-apart (a.HoldType ty.Bool) free one = h
-      acts-apart (a.HoldType ty.Int) free one = h
-      acts-apart (a.HoldType ty.Str) free one = h
-      acts-apart (a.HoldType ty.Any) free one = h
       acts-apart (a.HoldType (ty.Class c)) free one = tt
       acts-apart a.HoldClassType free one = search (holds-known, h)
       acts-apart a.AddParameterType free one = on-type Kept On w.pile _ h (λ y r h. search (holds-fails_if, h))
@@ -170,15 +161,24 @@ module _ (text : List ℕ) (bound : ℕ) where
       acts-apart (a.PutBoolean b) free one = leaf-apart (boolean b) w h (free refl)
       acts-apart a.PutSelf free one = leaf-apart TSelf w h (free refl)
       acts-apart a.PutNumber free one = leaf-apart (λ id. TInt id (pos (value_of_number bytes))) w h (free refl)
-      acts-apart a.PutText free one = leaf-apart (λ id. TText id (word_number w.said.texts (value_of_text bytes))) (record w { said = record w.said { texts = with_word w.said.texts (value_of_text bytes) } }) h (free refl)
+      acts-apart a.PutText free one = leaf-apart (λ id. TText id (word_number w.said.texts (value_of_text bytes)))
+          (record w { said = record w.said { texts = with_word w.said.texts (value_of_text bytes) } }) h (free refl)
       acts-apart a.PutVariable free one = on-name Kept On w.pile _ h (λ x q r h. put-apart w none (Word x q ∷ r) r q (λ id. TVar id x) h h.1.0 h.1.1 (λ id k. omega arith) (λ a. omega arith))
       acts-apart a.PutNew free one = on-class Kept On w.pile _ h (λ c q r h. put-apart w none (OfClass c q ∷ r) r q (λ id. TNew id c) h h.1.0 h.1.1 (λ id k. omega arith) (λ a. omega arith))
-      acts-apart a.PutAssign free one = on-operand Kept On w.pile _ h (λ e r h. on-target Kept (λ r. On (Operand e ∷ r)) r _ h (λ x q r h. put-apart (closed w) none (Operand e ∷ Target x q ∷ r) r q (λ id. TAssign id x e) h h.1.0 h.1.1 (λ id k. omega arith) (λ a. omega arith)))
-      acts-apart a.PutPrint free one = on-operand Kept On w.pile _ h (λ e r h. on-own Kept (λ r. On (Operand e ∷ r)) r _ h (λ q r h. put-apart (closed w) none (Operand e ∷ Own q ∷ r) r q (λ id. TPrint id e) h h.1.0 h.1.1 (λ id k. omega arith) (λ a. omega arith)))
-      acts-apart a.PutStr free one = on-operand Kept On w.pile _ h (λ e r h. on-own Kept (λ r. On (Operand e ∷ r)) r _ h (λ q r h. put-apart w none (Operand e ∷ Own q ∷ r) r q (λ id. TToStr id e) h h.1.0 h.1.1 (λ id k. omega arith) (λ a. omega arith)))
-      acts-apart a.PutNot free one = on-operand Kept On w.pile _ h (λ e r h. on-own Kept (λ r. On (Operand e ∷ r)) r _ h (λ q r h. put-apart (closed w) none (Operand e ∷ Own q ∷ r) r q (λ id. TNot id e) h h.1.0 h.1.1 (λ id k. omega arith) (λ a. omega arith)))
+      acts-apart a.PutAssign free one = on-operand Kept On w.pile _ h
+          (λ e r h. on-target Kept (λ r. On (Operand e ∷ r)) r _ h
+          (λ x q r h. put-apart (closed w) none (Operand e ∷ Target x q ∷ r) r q (λ id. TAssign id x e) h h.1.0 h.1.1 (λ id k. omega arith) (λ a. omega arith)))
+      acts-apart a.PutPrint free one = on-operand Kept On w.pile _ h
+          (λ e r h. on-own Kept (λ r. On (Operand e ∷ r)) r _ h
+          (λ q r h. put-apart (closed w) none (Operand e ∷ Own q ∷ r) r q (λ id. TPrint id e) h h.1.0 h.1.1 (λ id k. omega arith) (λ a. omega arith)))
+      acts-apart a.PutStr free one = on-operand Kept On w.pile _ h
+          (λ e r h. on-own Kept (λ r. On (Operand e ∷ r)) r _ h (λ q r h. put-apart w none (Operand e ∷ Own q ∷ r) r q (λ id. TToStr id e) h h.1.0 h.1.1 (λ id k. omega arith) (λ a. omega arith)))
+      acts-apart a.PutNot free one = on-operand Kept On w.pile _ h
+          (λ e r h. on-own Kept (λ r. On (Operand e ∷ r)) r _ h
+          (λ q r h. put-apart (closed w) none (Operand e ∷ Own q ∷ r) r q (λ id. TNot id e) h h.1.0 h.1.1 (λ id k. omega arith) (λ a. omega arith)))
       acts-apart (a.PutBinary op) free one = on-operand Kept On w.pile _ h (λ e2 r h. on-own Kept (λ r. On (Operand e2 ∷ r)) r _ h (λ q r h.
-          on-operand Kept (λ r. On (Operand e2 ∷ Own q ∷ r)) r _ h (λ e1 r h. put-apart w none (Operand e2 ∷ Own q ∷ Operand e1 ∷ r) r q (λ id. TBinary id op e1 e2) h h.1.0 h.1.1 (λ id k. omega arith) (λ a. omega arith))))
+          on-operand Kept (λ r. On (Operand e2 ∷ Own q ∷ r)) r _ h
+          (λ e1 r h. put-apart w none (Operand e2 ∷ Own q ∷ Operand e1 ∷ r) r q (λ id. TBinary id op e1 e2) h h.1.0 h.1.1 (λ id k. omega arith) (λ a. omega arith))))
       acts-apart a.PutIf free one = on-closed Kept On w.pile _ h (λ b2 r h. on-closed Kept (λ r. On (Closed b2 ∷ r)) r _ h (λ b1 r h.
           on-operand Kept (λ r. On (Closed b2 ∷ Closed b1 ∷ r)) r _ h (λ c r h. on-own Kept (λ r. On (Closed b2 ∷ Closed b1 ∷ Operand c ∷ r)) r _ h (λ q r h.
           put-apart (closed w) none (Closed b2 ∷ Closed b1 ∷ Operand c ∷ Own q ∷ r) r q (λ id. TIf id c b1 b2) h h.1.0 h.1.1 (λ id k. omega arith) (λ a. omega arith)))))
@@ -188,16 +188,24 @@ module _ (text : List ℕ) (bound : ℕ) where
           let in_arguments : ℕ → ℕ = λ k. blocks_in_all k (forest_of (arguments_on w.pile)) in
           on-called Kept (IsLaid text bound w.said in_arguments) (below_arguments w.pile) _
           (laid-below w.said in_arguments w.pile (below_arguments w.pile) h (spots-arguments text w.pile h.1) (λ k. blocks-arguments k w.pile) (λ a. coming-arguments a w.pile))
-          (λ m q r h. on-operand Kept (λ r. IsLaid text bound w.said in_arguments (Called m q ∷ r)) r _ h (λ e r h. put-apart w in_arguments (Called m q ∷ Operand e ∷ r) r q (λ id. TCall id e m (forest_of (arguments_on w.pile))) h h.1.0 h.1.1 (λ id k. omega arith) (λ a. omega arith)))
+          (λ m q r h. on-operand Kept (λ r. IsLaid text bound w.said in_arguments (Called m q ∷ r)) r _ h
+          (λ e r h. put-apart w in_arguments (Called m q ∷ Operand e ∷ r) r q (λ id. TCall id e m (forest_of (arguments_on w.pile))) h h.1.0 h.1.1 (λ id k. omega arith) (λ a. omega arith)))
       acts-apart a.PutDef free one = on-closed Kept On w.pile _ h (λ b r h. on-body Kept (λ r. On (Closed b ∷ r)) r _ h (λ r h.
           let given = giving (parameters_on r) b (closed w) in
           on-method Kept (λ r. On (Closed b ∷ r)) (below_parameters r) _ _
           (laid-same w.said none (Closed b ∷ Body ∷ r) (Closed b ∷ below_parameters r) h (spots-parameters text r h.1) (λ k. omega (arith, blocks-parameters k r)) (λ a. omega (arith, coming-parameters a r)))
-          (λ c m r h. on-own Kept (λ r. On (Closed b ∷ Named c m ∷ r)) r _ h (λ q r h. put-apart given none (Closed b ∷ Named c m ∷ Own q ∷ r) r q (λ id. TDef id c m (length w.said.bodies) b) h h.1.0 h.1.1 (λ id k. omega arith) (λ a. omega arith)))
-          (λ c e r h. on-own Kept (λ r. On (Closed b ∷ Computed c e ∷ r)) r _ h (λ q r h. put-apart given none (Closed b ∷ Computed c e ∷ Own q ∷ r) r q (λ id. TDefComputed id c e (length w.said.bodies) b) h h.1.0 h.1.1 (λ id k. omega arith) (λ a. omega arith)))))
+          (λ c m r h. on-own Kept (λ r. On (Closed b ∷ Named c m ∷ r)) r _ h
+          (λ q r h. put-apart given none (Closed b ∷ Named c m ∷ Own q ∷ r) r q (λ id. TDef id c m (length w.said.bodies) b) h h.1.0 h.1.1 (λ id k. omega arith) (λ a. omega arith)))
+          (λ c e r h. on-own Kept (λ r. On (Closed b ∷ Computed c e ∷ r)) r _ h
+          (λ q r h. put-apart given none (Closed b ∷ Computed c e ∷ Own q ∷ r) r q (λ id. TDefComputed id c e (length w.said.bodies) b) h h.1.0 h.1.1 (λ id k. omega arith)
+          (λ a. omega arith)))))
       acts-apart (a.PutDeclare asks) free one = on-type Kept On w.pile _ h (λ y r h.
           let typed = typing (method_ty (types_on r) y) w in
           on-method Kept On (below_types r) _ _
           (laid-same w.said none (OfType y ∷ r) (below_types r) h (spots-types text r h.1) (λ k. omega (arith, blocks-types k r)) (λ a. omega (arith, coming-types a r)))
-          (λ c m r h. on-declaring Kept (λ r. On (Named c m ∷ r)) r _ h (λ q r h. put-apart typed none (Named c m ∷ Declaring q ∷ r) r q (λ id. TDeclare id c m (length w.said.types) asks) h h.1.0 h.1.1 (λ id k. omega arith) (λ a. omega arith)))
-          (λ c e r h. on-declaring Kept (λ r. On (Computed c e ∷ r)) r _ h (λ q r h. put-apart typed none (Computed c e ∷ Declaring q ∷ r) r q (λ id. TDeclareComputed id c e (length w.said.types) asks) h h.1.0 h.1.1 (λ id k. omega arith) (λ a. omega arith))))
+          (λ c m r h. on-declaring Kept (λ r. On (Named c m ∷ r)) r _ h
+          (λ q r h. put-apart typed none (Named c m ∷ Declaring q ∷ r) r q (λ id. TDeclare id c m (length w.said.types) asks) h h.1.0 h.1.1 (λ id k. omega arith) (λ a. omega arith)))
+          (λ c e r h. on-declaring Kept (λ r. On (Computed c e ∷ r)) r _ h
+          (λ q r h. put-apart typed none (Computed c e ∷ Declaring q ∷ r) r q (λ id. TDeclareComputed id c e (length w.said.types) asks) h h.1.0 h.1.1 (λ id k. omega arith)
+          (λ a. omega arith))))
+      acts-apart _ _ _ = h

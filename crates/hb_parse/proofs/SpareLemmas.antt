@@ -1,14 +1,11 @@
 -- In each text an action that makes a token a node's own stands behind a token that is no node's own yet, and one setup ends at most.
 use Rattle.std.proofs.Common.{◌≡◌, inl, inr, ℕ, ◌+◌, ◌≤◌, List, [], ◌∷◌, ◌++◌, Bool, true, false, ◌&&◌, nat_le, cond, refl, sym, subst, arith}
 use Rattle.std.proofs.lemmas.Bool.{false≢true, and_parts, leb-true}
-use Rattle.hb_grammar.specs.declared.actions.Action.{Action}
+use Rattle.hb_grammar.specs.{Grammar.alternatives, Language.IsOneOf}
+use Rattle.hb_grammar.specs.declared.{actions.Action.Action, symbols.Sort.Sort, symbols.Symbol.Symbol, symbols.Symbol.TheVariants.Token as T}
+use Rattle.hb_grammar.specs.declared.{symbols.Symbol.TheVariants.Phrase as N, symbols.Symbol.TheVariants.Action as A}
 use Rattle.hb_grammar.specs.declared.actions.Action.TheVariants as a
-use Rattle.hb_grammar.specs.declared.symbols.Sort.{Sort}
 use Rattle.hb_grammar.specs.declared.symbols.Sort.TheVariants as g
-use Rattle.hb_grammar.specs.declared.symbols.Symbol.{Symbol}
-use Rattle.hb_grammar.specs.declared.symbols.Symbol.TheVariants.{Token as T, Phrase as N, Action as A}
-use Rattle.hb_grammar.specs.Grammar.{alternatives}
-use Rattle.hb_grammar.specs.Language.{IsOneOf}
 
 -- the token just read becomes the own token of a node that is no block
 abbrev pub uses : Action → Bool
@@ -56,36 +53,7 @@ are_good sort (phrase ∷ more) = is_good sort phrase && are_good sort more
 
 table : (sort : Sort) → are_good sort (alternatives sort) ≡ true
 table g.Program = refl
-table g.Classes = refl
-table g.Scripts = refl
-table g.Block = refl
-table g.Items = refl
-table g.MoreItems = refl
-table g.Expression = refl
-table g.AfterName = refl
-table g.OtherUnary = refl
-table g.Method = refl
-table g.MethodName = refl
-table g.Signature = refl
-table g.Types = refl
-table g.MoreTypes = refl
-table g.TypeWord = refl
-table g.MoreComparison = refl
-table g.Sum = refl
-table g.MoreSum = refl
-table g.Product = refl
-table g.MoreProduct = refl
-table g.Unary = refl
-table g.Postfix = refl
-table g.MorePostfix = refl
-table g.Arguments = refl
-table g.ArgumentList = refl
-table g.MoreArguments = refl
-table g.Primary = refl
-table g.Value = refl
-table g.ElsePart = refl
-table g.Parameters = refl
-table g.MoreParameters = refl
+table _ = refl
 
 one-good : (sort : Sort) (phrases : List (List Symbol)) → are_good sort phrases ≡ true → (phrase : List Symbol) → IsOneOf phrases phrase → is_good sort phrase ≡ true
 one-good sort [] h phrase one = absurd one

@@ -1,8 +1,6 @@
 -- The places of a program's nodes.
 use Rattle.std.specs.Prelude.{◌≡◌, ℕ}
-use Rattle.hb_tree.specs.Table.{Table}
-use Rattle.hb_tree.specs.Nodes.{node_at, place_at}
-use Rattle.hb_tree.specs.Program.{IsExprNode}
+use Rattle.hb_tree.specs.{Table.Table, Nodes.node_at, Nodes.place_at, Program.IsExprNode}
 
 -- nodes other than blocks have different places
 abbrev pub HasDifferentPlaces : Table → Type 0

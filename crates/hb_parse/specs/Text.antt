@@ -4,11 +4,10 @@ use Rattle.hb_lex.specs.declared.spans.Token.{Token}
 use Rattle.hb_tree.specs.Table.{Table}
 use Rattle.hb_grammar.specs.declared.wanted.Wanted.{Wanted}
 use Rattle.hb_grammar.specs.Language.{Act, HasActions, HasFirstActions, kinds_of}
+use Rattle.hb_build.specs.{Follow.follow, Said.Said, Said.said_in}
 use Rattle.hb_build.specs.declared.faults.ParseFail.{ParseFail}
 use Rattle.hb_build.specs.declared.faults.ParseFail.TheVariants as fail
 use Rattle.hb_build.specs.Acts.{Goes, Fails, Work, nothing}
-use Rattle.hb_build.specs.Follow.{follow}
-use Rattle.hb_build.specs.Said.{Said, said_in}
 
 -- the tokens are a program's, and their actions build what is said
 pub record Says (text : List ℕ) (tokens : List Token) (said : Said) : Type 0 where

@@ -108,6 +108,3 @@ pub fn parse(alloc: Global, text: &[u8], tokens: &Tokens) -> Result<Program, Par
         }
     }
 }
-
-#[cfg(test)]
-mod tests;

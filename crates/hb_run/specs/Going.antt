@@ -3,14 +3,11 @@ use Rattle.std.specs.Prelude.{◌≡◌, ◌≤◌, ℕ, List, [], ◌++◌, len
 use Rattle.hb_tree.specs.Table.{Table}
 use Rattle.hb_names.specs.declared.names.TheConstants.{NAMES_MAX}
 use Rattle.hb_names.specs.Names.{Differ, Name}
-use Rattle.hb_tables.specs.declared.entry.Entry.{Entry}
-use Rattle.hb_tables.specs.declared.entry.Act.{Act}
-use Rattle.hb_tables.specs.Answers.{Fixed}
-use Rattle.hb_tables.specs.Frames.{acts}
+use Rattle.hb_tables.specs.declared.{entry.Entry.Entry, entry.Act.Act}
+use Rattle.hb_tables.specs.{Answers.Fixed, Frames.acts}
 use Rattle.hb_call.specs.Growth.{Grown}
 use Rattle.hb_eval.specs.declared.machine.Machine.{Machine}
-use Rattle.hb_eval.specs.Machines.{StandsFor}
-use Rattle.hb_eval.specs.Staying.{Stays}
+use Rattle.hb_eval.specs.{Machines.StandsFor, Staying.Stays}
 
 -- Some acts came to the caller's own, each with the number of beginnings. Whatever run the machine stood for, it stands for it behind these acts.
 pub record GoesOn (t : Table) (c : ℕ) (names known : List Name) (was now : List Entry) (old new : Machine) : Type 0 where

@@ -1,8 +1,7 @@
 -- The history of a program, and the runs of its setup and its scripts against it.
 use Rattle.std.specs.Prelude.{◌≡◌, ℕ, zero, suc, ◌<◌, ◌≤◌, List, [], ◌∷◌, ◌++◌, length, slice_get, All, Bool, true, false, Option, Some, None, IsSome}
 use Rattle.std.specs.Option.{option_map}
-use Rattle.hb_types.specs.declared.ids.NodeId.{NodeId}
-use Rattle.hb_types.specs.declared.ids.NameId.{NameId}
+use Rattle.hb_types.specs.declared.{ids.NodeId.NodeId, ids.NameId.NameId}
 use Rattle.hb_tree.specs.Table.{Table}
 use Rattle.hb_names.specs.declared.names.TheConstants.{NAMES_MAX}
 use Rattle.hb_names.specs.Names.{Name, Differ}
@@ -10,8 +9,7 @@ use Rattle.hb_tables.specs.declared.entry.Entry.{Entry}
 use Rattle.hb_tables.specs.Frames.{acts}
 use Rattle.hb_tables.specs.History.{key_of, Every, IsLegal}
 use Rattle.hb_call.specs.Rules.{FitsRules}
-use Rattle.hb_eval.specs.Calls.{call_in}
-use Rattle.hb_eval.specs.Runs.{Run, script_run}
+use Rattle.hb_eval.specs.{Calls.call_in, Runs.Run, Runs.script_run}
 use Rattle.hb_eval.specs.Told.{Told, is_done, told}
 
 -- the block that a caller runs: the caller 0 the setup's, and the caller i that of the i-th script

@@ -2,17 +2,13 @@
 use Rattle.std.proofs.Common.{◌≡◌, ◌≢◌, ℕ, ◌<◌, ◌≤◌, false, List, [], ◌∷◌, ◌++◌, sym, refl, ap, ◌∙◌, subst, arith, eq-eqb, append_assoc}
 use Rattle.std.specs.Prelude.{option_map}
 use Rattle.hb_tree.specs.Table.{Table}
-use Rattle.hb_deriv.specs.Judge.{Key}
-use Rattle.hb_deriv.specs.Derivation.{type_at}
-use Rattle.hb_deriv.specs.Programs.{sites_of}
+use Rattle.hb_deriv.specs.{Judge.Key, Derivation.type_at, Programs.sites_of}
 use Rattle.hb_names.specs.Names.{Name}
-use Rattle.hb_tables.specs.declared.entry.Act.{Act}
-use Rattle.hb_tables.specs.declared.entry.Entry.{Entry}
+use Rattle.hb_tables.specs.declared.{entry.Act.Act, entry.Entry.Entry}
 use Rattle.hb_tables.specs.History.{spot, entry, IsLegal}
 use Rattle.hb_tables.specs.Frames.{acts, frees, StaysLive}
 use Rattle.hb_tables.specs.Rows.{site_in, types_in}
-use Rattle.hb_tables.proofs.HistoryLemmas.{legal_prefix}
-use Rattle.hb_tables.proofs.FrameLemmas.{live_join, frame_keeps}
+use Rattle.hb_tables.proofs.{HistoryLemmas.legal_prefix, FrameLemmas.live_join, FrameLemmas.frame_keeps}
 use Rattle.hb_sound.specs.Frames.{Frame, IsLive, AreLive, Holds}
 
 -- these acts end none of the frames
@@ -44,8 +40,17 @@ pub live_past : (log : List Entry) (c : ℕ) (fs : List Frame) (next later : ℕ
 unfolding Spares
 live_past log c [] next later l left le g h = (h.0 ++ l, h.1 ∙ sym (append_assoc h.0 l left))
 live_past log c (f ∷ fs) next later l left le g h =
-    let o = h.0.older in
-    (record { is = h.0.is; quiet = h.0.quiet; since = h.0.since ++ l; rest = h.0.rest ∙ sym (append_assoc h.0.since l left); live = live_join f.q h.0.since l h.0.live g.0; older = omega (arith, o, le) }, live_past log c fs next later l left le g.1 h.1)
+    let o = h.0.older in (
+      record {
+        is = h.0.is;
+        quiet = h.0.quiet;
+        since = h.0.since ++ l;
+        rest = h.0.rest ∙ sym (append_assoc h.0.since l left);
+        live = live_join f.q h.0.since l h.0.live g.0;
+        older = omega (arith, o, le);
+      },
+      live_past log c fs next later l left le g.1 h.1,
+    )
 
 -- frames stay live behind an act that gives no key back
 pub live_quiet : (log : List Entry) (c : ℕ) (fs : List Frame) (a : Act) (next : ℕ) (left : List Act) → ((q : ℕ) → frees q a ≡ false) → AreLive log c fs next (a ∷ left) → AreLive log c fs next left

@@ -3,26 +3,17 @@ use Rattle.std.proofs.Common.{◌≡◌, ◌⊎◌, inl, inr, ℕ, zero, suc, �
 use Rattle.std.specs.Prelude.{Contains, length, get_or, slice_get}
 use Rattle.std.specs.List.{AllByRecursion, flat_map, IsDistinct}
 use Rattle.std.specs.Option.{option_map}
-use Rattle.std.proofs.lemmas.Bool.{cases_lt}
-use Rattle.std.proofs.lemmas.List.Concat.{flat_map-cons}
-use Rattle.std.proofs.lemmas.Bool.Decides.{eqb_tells}
-use Rattle.std.proofs.lemmas.Option.{none-some, same_Some}
+use Rattle.std.proofs.{lemmas.Bool.cases_lt, lemmas.List.Concat.flat_map-cons, lemmas.Bool.Decides.eqb_tells, lemmas.Option.none-some, lemmas.Option.same_Some}
 use Rattle.hb_types.specs.declared.ids.NodeId.{NodeId}
 use Rattle.hb_tree.specs.declared.node.Method.TheVariants as method
-use Rattle.hb_tree.specs.declared.node.Node.{Node}
+use Rattle.hb_tree.specs.declared.{node.Node.Node, node.Placed.Placed, parts.Body.Body}
 use Rattle.hb_tree.specs.declared.node.Node.TheVariants as node
-use Rattle.hb_tree.specs.declared.node.Placed.{Placed}
-use Rattle.hb_tree.specs.declared.parts.Body.{Body}
-use Rattle.hb_tree.specs.Table.{Table}
-use Rattle.hb_tree.specs.Grows.{IsFounded}
+use Rattle.hb_tree.specs.{Table.Table, Grows.IsFounded, Roots.IsReachedOnce, Roots.roots, Tree.Tree}
 use Rattle.hb_tree.specs.Nodes.{args_of, items_of, numbers_of, node_at, block_in, exprs_of, blocks_of, parts_of}
 use Rattle.hb_tree.specs.Program.{IsProgram, IsDefNode, all_parts}
-use Rattle.hb_tree.specs.Roots.{IsReachedOnce, roots}
-use Rattle.hb_tree.specs.Tree.{Tree}
 use Rattle.hb_tree.specs.TreeAt.{forest_at, tree_of, tree_of_place, tree_down, tree_at}
-use Rattle.hb_tree.proofs.Lists.{each_append}
+use Rattle.hb_tree.proofs.{Lists.each_append, Trees.tree_at_node}
 use Rattle.hb_tree.proofs.Reached.{same, times, total-append, once_of_distinct}
-use Rattle.hb_tree.proofs.Trees.{tree_at_node}
 use Rattle.hb_sound.specs.Scripts.{IsNodeIn, IsNodeAmong, IsInBody}
 
 -- the number stands in the list
@@ -68,24 +59,7 @@ own_of t n = parts_of t n
 own_some : (t : Table) (n : Node) (j : ℕ) → times j (own_of t n) ≤ times j (parts_of t n)
 unfolding own_of
 own_some t (node.Def m s) j = omega (arith, times_both j (exprs_of t (node.Def m s)) (blocks_of t (node.Def m s)))
-own_some t node.Nil j = omega arith
-own_some t node.True j = omega arith
-own_some t node.False j = omega arith
-own_some t node.SelfRef j = omega arith
-own_some t (node.Int n) j = omega arith
-own_some t (node.Text x) j = omega arith
-own_some t (node.Var x) j = omega arith
-own_some t (node.New c) j = omega arith
-own_some t (node.Assign x e) j = omega arith
-own_some t (node.Print e) j = omega arith
-own_some t (node.ToStr e) j = omega arith
-own_some t (node.Not e) j = omega arith
-own_some t (node.Binary op a b) j = omega arith
-own_some t (node.If c a b) j = omega arith
-own_some t (node.While c b) j = omega arith
-own_some t (node.Call r m args) j = omega arith
-own_some t (node.Declare m s q) j = omega arith
-own_some t (node.Block first count) j = omega arith
+own_some t _ j = omega arith
 
 -- a node that is reached from another one through own parts
 data Under (t : Table) (root : ℕ) : ℕ → Type 0 where
@@ -201,14 +175,6 @@ module _ (t : Table) (founded : IsFounded t) where
   -- a node of a node's tree is its own, or one of the tree of an own part
   in_part : (id : ℕ) (n : Node) (x : ℕ) → IsNodeIn (tree_of t (tree_at t) id n) x → (x ≡ id) ⊎ ((j : ℕ) × Stands j (own_of t n) × IsNodeIn (tree_at t j) x)
   unfolding own_of
-  in_part id node.Nil x h = inl h
-  in_part id node.True x h = inl h
-  in_part id node.False x h = inl h
-  in_part id node.SelfRef x h = inl h
-  in_part id (node.Int n) x h = inl h
-  in_part id (node.Text y) x h = inl h
-  in_part id (node.Var y) x h = inl h
-  in_part id (node.New c) x h = inl h
   in_part id (node.Assign y e) x (inl h) = inl h
   in_part id (node.Assign y e) x (inr h) = inr (e.0, stands_here e.0 [], h)
   in_part id (node.Print e) x (inl h) = inl h
@@ -230,13 +196,12 @@ module _ (t : Table) (founded : IsFounded t) where
   in_part id (node.Call r m args) x (inl h) = inl h
   in_part id (node.Call r m args) x (inr (inl h)) = inr (r.0, stands_here r.0 (numbers_of (args_of args) ++ []), h)
   in_part id (node.Call r m args) x (inr (inr h)) = let k = among_one (args_of args) x h in inr (k.0, stands_later k.0 r.0 (numbers_of (args_of args) ++ []) (stands_front k.0 (numbers_of (args_of args)) [] k.1), k.2)
-  in_part id (node.Def (method.Named c m) s) x h = inl h
   in_part id (node.Def (method.Computed c e) s) x (inl h) = inl h
   in_part id (node.Def (method.Computed c e) s) x (inr h) = inr (e.0, stands_here e.0 [], h)
-  in_part id (node.Declare (method.Named c m) s q) x h = inl h
   in_part id (node.Declare (method.Computed c e) s q) x (inl h) = inl h
   in_part id (node.Declare (method.Computed c e) s q) x (inr h) = inr (e.0, stands_here e.0 [], h)
   in_part id (node.Block first count) x h = let k = among_one (items_of t first count) x h in inr (k.0, stands_front k.0 (numbers_of (items_of t first count)) [] k.1, k.2)
+  in_part _ _ _ h = inl h
 
   -- a fact of each number in a list
   each_stands : (P : ℕ → Type 0) (j : ℕ) (xs : List ℕ) → AllByRecursion P xs → Stands j xs → P j

@@ -1,9 +1,7 @@
 -- What a Call's row says of its body.
 use Rattle.std.proofs.Common.{arith, ◌≡◌, ℕ, suc, Bool, true, false, List, [], ◌∷◌, length, map, Option, Some, None, Ok, Err, sym, refl, ap, ◌∙◌, subst, eq-eqb}
 use Rattle.std.specs.Prelude.{◌||◌, if◌then◌else◌, Contains}
-use Rattle.hb_types.specs.declared.ids.BodySite.{BodySite}
-use Rattle.hb_types.specs.declared.types.Ty.{Ty}
-use Rattle.hb_types.specs.declared.types.MethodTy.{MethodTy}
+use Rattle.hb_types.specs.declared.{ids.BodySite.BodySite, types.Ty.Ty, types.MethodTy.MethodTy}
 use Rattle.hb_tree.specs.declared.parts.Body.{Body}
 use Rattle.hb_tree.specs.Table.{Table}
 use Rattle.hb_deriv.specs.Judge as judgement
@@ -13,8 +11,7 @@ use Rattle.hb_deriv.specs.Events.{Events, Look, Done, events, events_body, same_
 use Rattle.hb_deriv.proofs.KeyLemmas.{key_same, AllHave, fresh_has}
 use Rattle.hb_names.specs.Names.{Name, place}
 use Rattle.hb_names.proofs.NameLemmas.{place-at}
-use Rattle.hb_tables.specs.declared.entry.Entry.{Entry}
-use Rattle.hb_tables.specs.declared.entry.Verdict.{Verdict}
+use Rattle.hb_tables.specs.declared.{entry.Entry.Entry, entry.Verdict.Verdict}
 use Rattle.hb_tables.specs.declared.entry.Verdict.TheVariants as verdict
 use Rattle.hb_tables.specs.Names.{name_of}
 use Rattle.hb_tables.specs.Rows.{body_at, types_in, type_of_key, needs_in, HoldsName, IsDecided}
@@ -27,7 +24,8 @@ pub at_place : (names : List Name) (p r : Name) (k : ℕ) → place names p ≡ 
 at_place names p r k h g = some_same p r (sym (place-at names p k h) ∙ place-at names r k g)
 
 -- where a call is refused for its arguments, the method has a type that does not take them
-pub refused_takes : (t : Table) (types : Types) (class : ℕ) (b : Option Body) (m : Option MethodTy) (kinds : List Ty) → verdict_of t types class b m kinds ≡ verdict.BadArgs → (s : MethodTy) × (m ≡ Some s) × (takes s kinds ≡ false)
+pub refused_takes : (t : Table) (types : Types) (class : ℕ) (b : Option Body) (m : Option MethodTy) (kinds : List Ty) → verdict_of t types class b m kinds ≡ verdict.BadArgs
+    → (s : MethodTy) × (m ≡ Some s) × (takes s kinds ≡ false)
 refused_takes t types class None m kinds h = absurd (cc)
 refused_takes t types class (Some b) None kinds h = absurd (cc)
 refused_takes t types class (Some b) (Some s) kinds h = go (takes s kinds) refl h
@@ -59,7 +57,8 @@ pub record RowAt (t : Table) (names : List Name) (log : List Entry) (x : ℕ × 
   pub rules : verdict_of t (types_in t names log) k.0 (body_at t site) (type_of_key t log key) kinds ≡ as_fresh v
   pub held : (p : Name) → Contains (map (name_of t) (looks_of t (types_in t names log) k.0 (body_at t site) (type_of_key t log key) kinds)) p → HoldsName names log x p
 
-pub row_at : (t : Table) (names : List Name) (log : List Entry) (x : ℕ × ℕ) (k : Key) (key : ℕ) (site : Option BodySite) (kinds given : List Ty) (v : Verdict) → IsDecided t names log x key site given v → place names (name_of t k) ≡ Some key → given ≡ kinds → RowAt t names log x k key site kinds v
+pub row_at : (t : Table) (names : List Name) (log : List Entry) (x : ℕ × ℕ) (k : Key) (key : ℕ) (site : Option BodySite) (kinds given : List Ty) (v : Verdict)
+    → IsDecided t names log x key site given v → place names (name_of t k) ≡ Some key → given ≡ kinds → RowAt t names log x k key site kinds v
 row_at t names log x k key site kinds given v row there same =
     let one : row.name ≡ name_of t k = at_place names row.name (name_of t k) key row.is there in
     subst (λ (l : List Ty). RowAt t names log x k key site l v) same (record {

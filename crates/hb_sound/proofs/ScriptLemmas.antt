@@ -1,37 +1,26 @@
 -- What is not judged stops at its own nodes, or for a named cause.
 use Rattle.std.proofs.Common.{◌≡◌, inl, inr, ℕ, zero, suc, Bool, true, false, List, [], ◌∷◌, ◌++◌, length, Option, Some, None, refl, subst, nat_eq, nat_le}
 use Rattle.std.specs.Prelude.{Result, Ok, Err, if◌then◌else◌}
-use Rattle.hb_types.specs.declared.ids.ClassId.{ClassId}
-use Rattle.hb_types.specs.declared.types.Ty.{Ty}
+use Rattle.hb_types.specs.declared.{ids.ClassId.ClassId, types.Ty.Ty}
 use Rattle.hb_types.specs.declared.types.Ty.TheVariants as ty
-use Rattle.hb_tree.specs.Table.{Table}
-use Rattle.hb_tree.specs.Canon.{bytes_at}
-use Rattle.hb_tree.specs.Tree.{Tree, TNil, TTrue, TFalse, TSelf, TInt, TText, TVar, TNew, TAssign, TPrint, TToStr, TNot, TBinary, TIf, TWhile, TCall, TDef, TDefComputed, TDeclare, TDeclareComputed, TBlock, Forest, NoTree, Trees}
+use Rattle.hb_tree.specs.{Table.Table, Canon.bytes_at}
+use Rattle.hb_tree.specs.Tree.{Tree, TNil, TTrue, TFalse, TSelf, TInt, TText, TVar, TNew, TAssign, TPrint, TToStr, TNot, TBinary, TIf, TWhile, TCall, TDef, TDefComputed}
+use Rattle.hb_tree.specs.Tree.{TDeclare, TDeclareComputed, TBlock, Forest, NoTree, Trees}
 use Rattle.hb_deriv.specs.Judge.{declaration_type}
 use Rattle.hb_names.specs.declared.names.TheConstants.{NAMES_MAX}
 use Rattle.hb_names.specs.Names.{Name, place}
-use Rattle.hb_tables.specs.declared.entry.Act.{Act}
-use Rattle.hb_tables.specs.declared.entry.Entry.{Entry}
-use Rattle.hb_tables.specs.History.{IsLegal}
-use Rattle.hb_tables.specs.Frames.{frees}
-use Rattle.hb_tables.specs.Rows.{HasCallRows}
-use Rattle.hb_eval.specs.declared.printed.TheConstants.{OUTPUT_MAX}
-use Rattle.hb_eval.specs.declared.value.Value.{Value}
+use Rattle.hb_tables.specs.declared.{entry.Act.Act, entry.Entry.Entry}
+use Rattle.hb_tables.specs.{History.IsLegal, Frames.frees, Rows.HasCallRows}
+use Rattle.hb_eval.specs.declared.{printed.TheConstants.OUTPUT_MAX, value.Value.Value, stop.Stop.Stop}
 use Rattle.hb_eval.specs.declared.value.Value.TheVariants as value
-use Rattle.hb_eval.specs.declared.stop.Stop.{Stop}
-use Rattle.hb_eval.specs.Values.{is_false}
-use Rattle.hb_eval.specs.Operators.{operate}
-use Rattle.hb_eval.specs.Printing.{shown, print_line}
+use Rattle.hb_eval.specs.{Values.is_false, Operators.operate, Printing.shown, Printing.print_line, Calls.call_in}
 use Rattle.hb_eval.specs.State.{Bindings, St, Answer, Lost, Done, Halt, then_do, gives, begin, value_at, read_act, meant, next_act, reads}
 use Rattle.hb_eval.specs.Methods.{is_name, named, with_key, define_meaning, declare_meaning, define, declare}
 use Rattle.hb_eval.specs.Meaning.{Calls, variable, self_value, printed, turns, loop, ev, ev_items, ev_arguments}
-use Rattle.hb_eval.specs.Calls.{call_in}
-use Rattle.hb_sound.specs.Sound.{Rest}
-use Rattle.hb_sound.specs.Frames.{AreLive, Ends}
+use Rattle.hb_sound.specs.{Sound.Rest, Frames.AreLive, Frames.Ends}
 use Rattle.hb_sound.specs.Scripts.{IsNodeIn, IsNodeAmong, Tame}
 use Rattle.hb_sound.proofs.SoundLemmas.{FairAct, define_fair, declare_fair}
-use Rattle.hb_sound.proofs.LiveLemmas.{live_quiet}
-use Rattle.hb_sound.proofs.CallLemmas.{call_ends, within}
+use Rattle.hb_sound.proofs.{LiveLemmas.live_quiet, CallLemmas.call_ends, CallLemmas.within}
 
 -- A call stops at its node or for a named cause. What is true of the acts stays so behind one that gives no key back.
 pub record AreTame (Inv : Rest) (Node : ℕ → Type 0) (call : Calls) : Type 0 where
@@ -68,12 +57,14 @@ module _ (Inv : Rest) (Node : ℕ → Type 0) (t : Table) (names : List Name) (c
   tame_printed : (id : ℕ) (text : List ℕ) (s : St) → Inv s.next s.journal → Tame Inv Node (printed id text s)
   tame_printed id text s f = tame_if (nat_le (length (s.output ++ print_line text)) OUTPUT_MAX) _ _ f (inl tt)
 
-  tame_turns : (test body : St → Answer) → ((s : St) → Inv s.next s.journal → Tame Inv Node (test s)) → ((s : St) → Inv s.next s.journal → Tame Inv Node (body s)) → (n : ℕ) (s : St) → Inv s.next s.journal → Tame Inv Node (turns n test body s)
+  tame_turns : (test body : St → Answer) → ((s : St) → Inv s.next s.journal → Tame Inv Node (test s)) → ((s : St) → Inv s.next s.journal → Tame Inv Node (body s)) → (n : ℕ) (s : St)
+      → Inv s.next s.journal → Tame Inv Node (turns n test body s)
   unfolding turns
   tame_turns test body ht hb zero s f = tt
   tame_turns test body ht hb (suc n) s f = tame_then (test s) _ (ht s f) (λ v s f. tame_if (is_false v) _ _ f (tame_then (body s) _ (hb s f) (λ w s f. tame_turns test body ht hb n s f)))
 
-  tame_loop : (test body : St → Answer) → ((s : St) → Inv s.next s.journal → Tame Inv Node (test s)) → ((s : St) → Inv s.next s.journal → Tame Inv Node (body s)) → (s : St) → Inv s.next s.journal → Tame Inv Node (loop test body s)
+  tame_loop : (test body : St → Answer) → ((s : St) → Inv s.next s.journal → Tame Inv Node (test s)) → ((s : St) → Inv s.next s.journal → Tame Inv Node (body s)) → (s : St) → Inv s.next s.journal
+      → Tame Inv Node (loop test body s)
   unfolding loop
   tame_loop test body ht hb s f = tame_turns test body ht hb (suc s.fuel) s f
 
@@ -100,11 +91,8 @@ module _ (Inv : Rest) (Node : ℕ → Type 0) (t : Table) (names : List Name) (c
   tame_declare id asks name site s n f = tame_keyed id (place names name) s _ (λ key. tame_reads (declaration_type asks) (declare_meaning asks key site) (declare_fair asks key site) id s n f)
 
   tame_named : (id : ℕ) (v : Value) (s : St) (go : List ℕ → Answer) → Node id → ((bytes : List ℕ) → Tame Inv Node (go bytes)) → Tame Inv Node (named id v s go)
-  tame_named id value.Nil s go n k = inr n
-  tame_named id (value.Bool b) s go n k = inr n
-  tame_named id (value.Int i) s go n k = inr n
-  tame_named id (value.Object c) s go n k = inr n
   tame_named id (value.Str bytes) s go n k = tame_if (is_name bytes) _ _ (k bytes) (inr n)
+  tame_named _ _ _ _ n _ = inr n
 
   mutual
     pub tame : (e : Tree) → ((n : ℕ) → IsNodeIn e n → Node n) → (s : St) → Inv s.next s.journal → Tame Inv Node (ev t names call e s)
@@ -120,21 +108,27 @@ module _ (Inv : Rest) (Node : ℕ → Type 0) (t : Table) (names : List Name) (c
     tame (TPrint id e) has s f = tame_begin id s _ f (λ s f. tame_then _ _ (tame e (λ n h. has n (inr h)) s f) (λ v s f. tame_printed id (shown t v) s f))
     tame (TToStr id e) has s f = tame_begin id s _ f (λ s f. tame_then _ _ (tame e (λ n h. has n (inr h)) s f) (λ v s f. f))
     tame (TNot id e) has s f = tame_begin id s _ f (λ s f. tame_then _ _ (tame e (λ n h. has n (inr h)) s f) (λ v s f. f))
-    tame (TBinary id o a b) has s f = tame_begin id s _ f (λ s f. tame_then _ _ (tame a (λ n h. has n (inr (inl h))) s f) (λ v s f. tame_then _ _ (tame b (λ n h. has n (inr (inr h))) s f) (λ w s f. tame_gives id (operate o v w) s (has id (inl refl)) f)))
-    tame (TIf id c a b) has s f = tame_begin id s _ f (λ s f. tame_then _ _ (tame c (λ n h. has n (inr (inl h))) s f) (λ v s f. tame_if (is_false v) _ _ (tame b (λ n h. has n (inr (inr (inr h)))) s f) (tame a (λ n h. has n (inr (inr (inl h)))) s f)))
+    tame (TBinary id o a b) has s f = tame_begin id s _ f (λ s f. tame_then _ _ (tame a (λ n h. has n (inr (inl h))) s f)
+        (λ v s f. tame_then _ _ (tame b (λ n h. has n (inr (inr h))) s f) (λ w s f. tame_gives id (operate o v w) s (has id (inl refl)) f)))
+    tame (TIf id c a b) has s f = tame_begin id s _ f (λ s f. tame_then _ _ (tame c (λ n h. has n (inr (inl h))) s f)
+        (λ v s f. tame_if (is_false v) _ _ (tame b (λ n h. has n (inr (inr (inr h)))) s f) (tame a (λ n h. has n (inr (inr (inl h)))) s f)))
     tame (TWhile id c b) has s f = tame_begin id s _ f (λ s f. tame_loop _ _ (tame c (λ n h. has n (inr (inl h)))) (tame b (λ n h. has n (inr (inr h)))) s f)
-    tame (TCall id r m args) has s f = tame_begin id s _ f (λ s f. tame_then _ _ (tame r (λ n h. has n (inr (inl h))) s f) (λ v s f. tame_args args (λ n h. has n (inr (inr h))) [] _ (λ us s f. ok.calls id v m us s (has id (inl refl)) f) s f))
+    tame (TCall id r m args) has s f = tame_begin id s _ f (λ s f. tame_then _ _ (tame r (λ n h. has n (inr (inl h))) s f)
+        (λ v s f. tame_args args (λ n h. has n (inr (inr h))) [] _ (λ us s f. ok.calls id v m us s (has id (inl refl)) f) s f))
     tame (TDef id c m site b) has s f = tame_begin id s _ f (λ s f. tame_define id (c, bytes_at t.names m) site s (has id refl) f)
-    tame (TDefComputed id c e site b) has s f = tame_begin id s _ f (λ s f. tame_then _ _ (tame e (λ n h. has n (inr h)) s f) (λ v s f. tame_named id v s _ (has id (inl refl)) (λ bytes. tame_define id (c, bytes) site s (has id (inl refl)) f)))
+    tame (TDefComputed id c e site b) has s f = tame_begin id s _ f
+        (λ s f. tame_then _ _ (tame e (λ n h. has n (inr h)) s f) (λ v s f. tame_named id v s _ (has id (inl refl)) (λ bytes. tame_define id (c, bytes) site s (has id (inl refl)) f)))
     tame (TDeclare id c m site asks) has s f = tame_begin id s _ f (λ s f. tame_declare id asks (c, bytes_at t.names m) site s (has id refl) f)
-    tame (TDeclareComputed id c e site asks) has s f = tame_begin id s _ f (λ s f. tame_then _ _ (tame e (λ n h. has n (inr h)) s f) (λ v s f. tame_named id v s _ (has id (inl refl)) (λ bytes. tame_declare id asks (c, bytes) site s (has id (inl refl)) f)))
+    tame (TDeclareComputed id c e site asks) has s f = tame_begin id s _ f
+        (λ s f. tame_then _ _ (tame e (λ n h. has n (inr h)) s f) (λ v s f. tame_named id v s _ (has id (inl refl)) (λ bytes. tame_declare id asks (c, bytes) site s (has id (inl refl)) f)))
     tame (TBlock id es) has s f = tame_items es has value.Nil s f
 
     tame_items : (es : Forest) → ((n : ℕ) → IsNodeAmong es n → Node n) → (v : Value) (s : St) → Inv s.next s.journal → Tame Inv Node (ev_items t names call es v s)
     tame_items NoTree has v s f = f
     tame_items (Trees e es) has v s f = tame_then _ _ (tame e (λ n h. has n (inl h)) s f) (λ w s f. tame_items es (λ n h. has n (inr h)) w s f)
 
-    tame_args : (es : Forest) → ((n : ℕ) → IsNodeAmong es n → Node n) → (vs : List Value) (go : List Value → St → Answer) → ((us : List Value) (s : St) → Inv s.next s.journal → Tame Inv Node (go us s)) → (s : St) → Inv s.next s.journal → Tame Inv Node (ev_arguments t names call es vs go s)
+    tame_args : (es : Forest) → ((n : ℕ) → IsNodeAmong es n → Node n) → (vs : List Value) (go : List Value → St → Answer)
+        → ((us : List Value) (s : St) → Inv s.next s.journal → Tame Inv Node (go us s)) → (s : St) → Inv s.next s.journal → Tame Inv Node (ev_arguments t names call es vs go s)
     tame_args NoTree has vs go g s f = g vs s f
     tame_args (Trees e es) has vs go g s f = tame_then _ _ (tame e (λ n h. has n (inl h)) s f) (λ v s f. tame_args es (λ n h. has n (inr h)) (vs ++ v ∷ []) go g s f)
 
@@ -147,14 +141,6 @@ module _ (t : Table) (names : List Name) (limit : ℕ) (log : List Entry) (c : �
   tame_call : (room id : ℕ) (r : Value) (m : ℕ) (vs : List Value) (s : St) → Node id → AreLive log c [] s.next s.journal → Tame (AreLive log c []) Node (call_in t names room id r m vs s)
   unfolding call_in
   tame_call zero id value.Nil m vs s n f = inr n
-  tame_call zero id (value.Bool b) m vs s n f = inr n
-  tame_call zero id (value.Int i) m vs s n f = inr n
-  tame_call zero id (value.Str x) m vs s n f = inr n
-  tame_call zero id (value.Object d) m vs s n f = inr n
-  tame_call (suc room) id value.Nil m vs s n f = inr n
-  tame_call (suc room) id (value.Bool b) m vs s n f = inr n
-  tame_call (suc room) id (value.Int i) m vs s n f = inr n
-  tame_call (suc room) id (value.Str x) m vs s n f = inr n
   tame_call (suc room) id (value.Object d) m vs s n f = call_ends t names limit log c legal rows room (within t names limit log c legal rows room) [] [] log f.0 id d m vs s refl f.1 f (Tame (AreLive log c []) Node)
       (record {
         lost = tt;
@@ -163,6 +149,7 @@ module _ (t : Table) (names : List Name) (limit : ℕ) (log : List Entry) (c : �
         refused = λ before at declared has none u. inr n;
         done = λ before at declared has a ends. ends_tame (AreLive log c []) Node declared.result s.vars s.self a ends;
       })
+  tame_call _ _ _ _ _ _ n _ = inr n
 
   pub script_tame : (room : ℕ) (block : Tree) → ((n : ℕ) → IsNodeIn block n → Node n) → (s : St) → AreLive log c [] s.next s.journal → Tame (AreLive log c []) Node (ev t names (call_in t names room) block s)
   script_tame room block has s f = tame (AreLive log c []) Node t names (call_in t names room) (record { calls = tame_call room; reads = λ a next left. live_quiet log c [] a next left }) block has s f

@@ -1,34 +1,29 @@
 -- Each judged expression is sound, by its judgement.
 use Rattle.std.proofs.Common.{◌≡◌, ℕ, zero, suc, List, [], ◌∷◌, ◌++◌, length, Option, Some, None, Bool, true, false, refl, sym, subst, nat_eq, nat_le, eq-eqb}
 use Rattle.std.specs.Prelude.{Result, Ok, Err, ℤ, ◌&&◌, if◌then◌else◌, ◌+ℤ◌, ◌-ℤ◌, ◌*ℤ◌}
-use Rattle.hb_types.specs.declared.ids.ClassId.{ClassId}
-use Rattle.hb_types.specs.declared.types.Ty.{Ty}
+use Rattle.hb_types.specs.declared.{ids.ClassId.ClassId, types.Ty.Ty}
 use Rattle.hb_types.specs.declared.types.Ty.TheVariants as ty
 use Rattle.hb_types.specs.Types.{is_below, join_of}
 use Rattle.hb_types.specs.Variables.{Variables, set, join, keeps}
-use Rattle.hb_tree.specs.declared.limits.TheConstants.{TEXT_BYTES_MAX}
-use Rattle.hb_tree.specs.declared.node.Op.{Op}
+use Rattle.hb_tree.specs.declared.{limits.TheConstants.TEXT_BYTES_MAX, node.Op.Op}
 use Rattle.hb_tree.specs.declared.node.Op.TheVariants as op
-use Rattle.hb_tree.specs.Table.{Table}
-use Rattle.hb_tree.specs.Canon.{bytes_at}
-use Rattle.hb_tree.specs.Tree.{Tree, Forest}
+use Rattle.hb_tree.specs.{Table.Table, Canon.bytes_at, Tree.Tree, Tree.Forest}
 use Rattle.hb_deriv.specs.Judge.{Key, Types, Verdict, object as object_type, operand_limit, operator_type, declaration_type}
-use Rattle.hb_deriv.specs.Judgement.{Judged, JudgedItems, JudgedArgs, JudgedNil, JudgedTrue, JudgedFalse, JudgedSelf, JudgedInt, JudgedText, JudgedVar, JudgedNew, JudgedAssign, JudgedPrint, JudgedToStr, JudgedNot, JudgedBinary, JudgedIf, JudgedWhile, JudgedCall, JudgedDef, JudgedDefComputed, JudgedDeclare, JudgedDeclareComputed, JudgedBlock, JudgedNoItem, JudgedItem, JudgedNoArg, JudgedArg}
+use Rattle.hb_deriv.specs.Judgement.{Judged, JudgedItems, JudgedArgs, JudgedNil, JudgedTrue, JudgedFalse, JudgedSelf, JudgedInt, JudgedText, JudgedVar, JudgedNew, JudgedAssign}
+use Rattle.hb_deriv.specs.Judgement.{JudgedPrint, JudgedToStr, JudgedNot, JudgedBinary, JudgedIf, JudgedWhile, JudgedCall, JudgedDef, JudgedDefComputed, JudgedDeclare}
+use Rattle.hb_deriv.specs.Judgement.{JudgedDeclareComputed, JudgedBlock, JudgedNoItem, JudgedItem, JudgedNoArg, JudgedArg}
 use Rattle.hb_deriv.specs.Events.{Events, Look, Done as Finished, behind, events, events_items, events_args}
 use Rattle.hb_deriv.proofs.JudgementLemmas.{judge_of, args_of}
 use Rattle.hb_names.specs.declared.names.TheConstants.{NAMES_MAX}
 use Rattle.hb_names.specs.Names.{Name, place}
-use Rattle.hb_tables.specs.declared.entry.Act.{Act}
-use Rattle.hb_tables.specs.declared.entry.Act.TheVariants.{Hold, Free, Retype, Busy, WornType, Define, WornDef, Call}
+use Rattle.hb_tables.specs.declared.{entry.Act.Act, entry.Act.TheVariants.Hold, entry.Act.TheVariants.Free, entry.Act.TheVariants.Retype, entry.Act.TheVariants.Busy}
+use Rattle.hb_tables.specs.declared.{entry.Act.TheVariants.WornType, entry.Act.TheVariants.Define, entry.Act.TheVariants.WornDef, entry.Act.TheVariants.Call}
 use Rattle.hb_tables.specs.Frames.{frees}
-use Rattle.hb_eval.specs.declared.printed.TheConstants.{OUTPUT_MAX}
-use Rattle.hb_eval.specs.declared.value.Value.{Value}
+use Rattle.hb_eval.specs.declared.{printed.TheConstants.OUTPUT_MAX, value.Value.Value, stop.Stop.Stop}
 use Rattle.hb_eval.specs.declared.value.Value.TheVariants as value
-use Rattle.hb_eval.specs.declared.stop.Stop.{Stop}
 use Rattle.hb_eval.specs.declared.stop.Stop.TheVariants as stop
-use Rattle.hb_eval.specs.Values.{is_false}
+use Rattle.hb_eval.specs.{Values.is_false, Printing.shown, Printing.print_line}
 use Rattle.hb_eval.specs.Operators.{is_int, int_of, text_of, operate}
-use Rattle.hb_eval.specs.Printing.{shown, print_line}
 use Rattle.hb_eval.specs.State.{Bindings, St, Answer, Lost, Done, Halt, then_do, gives, begin, value_at, read_act, meant, next_act, reads}
 use Rattle.hb_eval.specs.Methods.{is_name, named, with_key, define_meaning, declare_meaning, define, declare}
 use Rattle.hb_eval.specs.Meaning.{Calls, variable, self_value, printed, turns, loop, ev, ev_items, ev_arguments}
@@ -65,51 +60,22 @@ text_fair bytes = go (nat_le (length bytes) TEXT_BYTES_MAX)
 operate_fair : (o : Op) (v w : Value) → Conforms v (operand_limit o) → Conforms w (operand_limit o) → Fair (operator_type o) (operate o v w)
 unfolding Fair
 operate_fair op.Add value.Nil w h k = tt
-operate_fair op.Add (value.Bool x) w h k = absurd (cc)
-operate_fair op.Add (value.Str x) w h k = absurd (cc)
-operate_fair op.Add (value.Object x) w h k = absurd (cc)
 operate_fair op.Add (value.Int x) value.Nil h k = tt
-operate_fair op.Add (value.Int x) (value.Bool y) h k = absurd (cc)
-operate_fair op.Add (value.Int x) (value.Str y) h k = absurd (cc)
-operate_fair op.Add (value.Int x) (value.Object y) h k = absurd (cc)
 operate_fair op.Add (value.Int x) (value.Int y) h k = int_fair (x +ℤ y)
 operate_fair op.Sub value.Nil w h k = tt
-operate_fair op.Sub (value.Bool x) w h k = absurd (cc)
-operate_fair op.Sub (value.Str x) w h k = absurd (cc)
-operate_fair op.Sub (value.Object x) w h k = absurd (cc)
 operate_fair op.Sub (value.Int x) value.Nil h k = tt
-operate_fair op.Sub (value.Int x) (value.Bool y) h k = absurd (cc)
-operate_fair op.Sub (value.Int x) (value.Str y) h k = absurd (cc)
-operate_fair op.Sub (value.Int x) (value.Object y) h k = absurd (cc)
 operate_fair op.Sub (value.Int x) (value.Int y) h k = int_fair (x -ℤ y)
 operate_fair op.Mul value.Nil w h k = tt
-operate_fair op.Mul (value.Bool x) w h k = absurd (cc)
-operate_fair op.Mul (value.Str x) w h k = absurd (cc)
-operate_fair op.Mul (value.Object x) w h k = absurd (cc)
 operate_fair op.Mul (value.Int x) value.Nil h k = tt
-operate_fair op.Mul (value.Int x) (value.Bool y) h k = absurd (cc)
-operate_fair op.Mul (value.Int x) (value.Str y) h k = absurd (cc)
-operate_fair op.Mul (value.Int x) (value.Object y) h k = absurd (cc)
 operate_fair op.Mul (value.Int x) (value.Int y) h k = int_fair (x *ℤ y)
 operate_fair op.Less value.Nil w h k = tt
-operate_fair op.Less (value.Bool x) w h k = absurd (cc)
-operate_fair op.Less (value.Str x) w h k = absurd (cc)
-operate_fair op.Less (value.Object x) w h k = absurd (cc)
 operate_fair op.Less (value.Int x) value.Nil h k = tt
-operate_fair op.Less (value.Int x) (value.Bool y) h k = absurd (cc)
-operate_fair op.Less (value.Int x) (value.Str y) h k = absurd (cc)
-operate_fair op.Less (value.Int x) (value.Object y) h k = absurd (cc)
 operate_fair op.Less (value.Int x) (value.Int y) h k = refl
 operate_fair op.Concat value.Nil w h k = tt
-operate_fair op.Concat (value.Bool x) w h k = absurd (cc)
-operate_fair op.Concat (value.Int x) w h k = absurd (cc)
-operate_fair op.Concat (value.Object x) w h k = absurd (cc)
 operate_fair op.Concat (value.Str x) value.Nil h k = tt
-operate_fair op.Concat (value.Str x) (value.Bool y) h k = absurd (cc)
-operate_fair op.Concat (value.Str x) (value.Int y) h k = absurd (cc)
-operate_fair op.Concat (value.Str x) (value.Object y) h k = absurd (cc)
 operate_fair op.Concat (value.Str x) (value.Str y) h k = text_fair (x ++ y)
 operate_fair op.Equal v w h k = refl
+operate_fair _ _ w h k = absurd (cc)
 
 -- where a test of an act lets it mean something
 fair_if : (t : Ty) (a : Act) (b : Bool) (r : Result Value Stop) → ((q : ℕ) → frees q a ≡ false) → Fair t r → FairAct t a (if b then Some r else None)
@@ -121,12 +87,7 @@ pub define_fair : (key site : ℕ) (a : Act) → FairAct ty.Nil a (define_meanin
 unfolding Fair FairAct
 define_fair key site (Define k s) = fair_if ty.Nil (Define k s) (nat_eq k.0 key && nat_eq s.0 site) (Ok value.Nil) (λ q. refl) refl
 define_fair key site (WornDef k) = fair_if ty.Nil (WornDef k) (nat_eq k.0 key) (Err stop.Worn) (λ q. refl) tt
-define_fair key site (Hold p k ty n) = tt
-define_fair key site (Free p k) = tt
-define_fair key site (Retype k s) = tt
-define_fair key site (Busy k pins) = tt
-define_fair key site (WornType k) = tt
-define_fair key site (Call p k s args v) = tt
+define_fair _ _ _ = tt
 
 pub declare_fair : (asks : Bool) (key site : ℕ) (a : Act) → FairAct (declaration_type asks) a (declare_meaning asks key site a)
 unfolding Fair FairAct
@@ -135,11 +96,7 @@ declare_fair false key site (Retype k s) = fair_if ty.Nil (Retype k s) (nat_eq k
 declare_fair true key site (Busy k pins) = fair_if ty.Bool (Busy k pins) (nat_eq k.0 key) (Ok (value.Bool false)) (λ q. refl) refl
 declare_fair false key site (Busy k pins) = fair_if ty.Nil (Busy k pins) (nat_eq k.0 key) (Err stop.Busy) (λ q. refl) tt
 declare_fair asks key site (WornType k) = fair_if (declaration_type asks) (WornType k) (nat_eq k.0 key) (Err stop.Worn) (λ q. refl) tt
-declare_fair asks key site (Hold p k ty n) = tt
-declare_fair asks key site (Free p k) = tt
-declare_fair asks key site (Define k s) = tt
-declare_fair asks key site (WornDef k) = tt
-declare_fair asks key site (Call p k s args v) = tt
+declare_fair _ _ _ _ = tt
 
 -- the looks of a first part, and of those behind it
 pub looks_first : (Uses : Key → Type 0) (es fs : Events) → LooksIn Uses (es ++ fs) → LooksIn Uses es
@@ -170,7 +127,8 @@ module _ (Inv : Rest) (me : ℕ) where
   self_sound G id None s e f = absurd (cc)
   self_sound G id (Some c) s e f = (let h : c ≡ record { 0 = me } = some_same c (record { 0 = me }) e in eq-eqb c.0 me (λ i. (h i).0), f)
 
-  sound_then : (G G' : Variables) (t t' : Ty) (a : Answer) (go : Value → St → Answer) → Sound Inv me G t a → ((v : Value) (s : St) → Conforms v t → Stands Inv me G s → Sound Inv me G' t' (go v s)) → Sound Inv me G' t' (then_do a go)
+  sound_then : (G G' : Variables) (t t' : Ty) (a : Answer) (go : Value → St → Answer) → Sound Inv me G t a
+      → ((v : Value) (s : St) → Conforms v t → Stands Inv me G s → Sound Inv me G' t' (go v s)) → Sound Inv me G' t' (then_do a go)
   unfolding then_do
   sound_then G G' t t' Lost go h k = tt
   sound_then G G' t t' (Done v s) go h k = k v s h.0 h.1
@@ -196,7 +154,8 @@ module _ (Inv : Rest) (me : ℕ) where
   gives_sound G t id (Ok v) s h f = (h, f)
   gives_sound G t id (Err e) s h f = h
 
-  operate_sound : (G : Variables) (id : ℕ) (o : Op) (v w : Value) (a b : Ty) (s : St) → Conforms v a → Conforms w b → is_below a (operand_limit o) ≡ true → is_below b (operand_limit o) ≡ true → Stands Inv me G s → Sound Inv me G (operator_type o) (gives id (operate o v w) s)
+  operate_sound : (G : Variables) (id : ℕ) (o : Op) (v w : Value) (a b : Ty) (s : St) → Conforms v a → Conforms w b → is_below a (operand_limit o) ≡ true → is_below b (operand_limit o) ≡ true
+      → Stands Inv me G s → Sound Inv me G (operator_type o) (gives id (operate o v w) s)
   operate_sound G id o v w a b s hv hw ha hb f = gives_sound G (operator_type o) id (operate o v w) s (operate_fair o v w (widen v a (operand_limit o) hv ha) (widen w b (operand_limit o) hw hb)) f
 
   turns_sound : (G G1 G2 : Variables) (r t : Ty) (test body : St → Answer) → ((s : St) → Stands Inv me G s → Sound Inv me G1 r (test s)) → ((s : St) → Stands Inv me G1 s → Sound Inv me G2 t (body s)) → keeps G G2 ≡ true
@@ -242,10 +201,12 @@ module _ (Inv : Rest) (me : ℕ) where
   define_sound quiet G names id name site s f = keyed_sound G ty.Nil names id (place names name) s _ (λ key. reads_sound quiet G ty.Nil (define_meaning key site) (define_fair key site) id s f)
 
   declare_sound : Quiet → (G : Variables) (names : List Name) (id : ℕ) (asks : Bool) (name : Name) (site : ℕ) (s : St) → Stands Inv me G s → Sound Inv me G (declaration_type asks) (declare names id asks name site s)
-  declare_sound quiet G names id asks name site s f = keyed_sound G (declaration_type asks) names id (place names name) s _ (λ key. reads_sound quiet G (declaration_type asks) (declare_meaning asks key site) (declare_fair asks key site) id s f)
+  declare_sound quiet G names id asks name site s f = keyed_sound G (declaration_type asks) names id (place names name) s _
+      (λ key. reads_sound quiet G (declaration_type asks) (declare_meaning asks key site) (declare_fair asks key site) id s f)
 
   -- a text, or nil, as a computed name
-  named_sound : (G : Variables) (a t : Ty) (id : ℕ) (v : Value) (s : St) (go : List ℕ → Answer) → Conforms v a → is_below a ty.Str ≡ true → ((bytes : List ℕ) → Sound Inv me G t (go bytes)) → Sound Inv me G t (named id v s go)
+  named_sound : (G : Variables) (a t : Ty) (id : ℕ) (v : Value) (s : St) (go : List ℕ → Answer) → Conforms v a → is_below a ty.Str ≡ true → ((bytes : List ℕ) → Sound Inv me G t (go bytes))
+      → Sound Inv me G t (named id v s go)
   named_sound G a t id v s go h le k = by v (widen v a ty.Str h le)
     where
       by : (v : Value) → Conforms v ty.Str → Sound Inv me G t (named id v s go)
@@ -259,7 +220,8 @@ module _ (Inv : Rest) (me : ℕ) where
     mutual
       unfolding Quiet
 
-      pub sound : {Uses : Key → Type 0} {types : Types} {G G2 : Variables} {e : Tree} {t : Ty} → Judged types me G e G2 t → AreSound Inv me Uses types call → LooksIn Uses (events types me e G) → (s : St) → Stands Inv me G s → Sound Inv me G2 t (ev p names call e s)
+      pub sound : {Uses : Key → Type 0} {types : Types} {G G2 : Variables} {e : Tree} {t : Ty} → Judged types me G e G2 t → AreSound Inv me Uses types call → LooksIn Uses (events types me e G)
+          → (s : St) → Stands Inv me G s → Sound Inv me G2 t (ev p names call e s)
       sound (JudgedNil {G = G} {id = id}) ok u s f = sound_begin G G ty.Nil id s _ f (λ s f. (refl, f))
       sound (JudgedTrue {G = G} {id = id}) ok u s f = sound_begin G G ty.Bool id s _ f (λ s f. (refl, f))
       sound (JudgedFalse {G = G} {id = id}) ok u s f = sound_begin G G ty.Bool id s _ f (λ s f. (refl, f))
@@ -269,7 +231,8 @@ module _ (Inv : Rest) (me : ℕ) where
       sound (JudgedVar {G = G} {id = id} {x = x} {t = t} h) ok u s f = sound_begin G G t id s _ f (λ s f. let v = f.vars x t h in variable_sound G t id (value_at s.vars x) v.0 s v.1 v.2 f)
       sound (JudgedNew {G = G} {id = id} {c = c}) ok u s f = sound_begin G G (object_type c) id s _ f (λ s f. (eq-eqb c c refl, f))
       sound (JudgedAssign {G = G} {G1 = H} {id = id} {x = x} {t = t} h) ok u s f =
-          sound_begin G (set H x t) t id s _ f (λ s f. sound_then H (set H x t) t t _ _ (sound h ok (looks_first _ _ _ u) s f) (λ v s c f. (c, record { vars = fits_bind H s.vars x t v f.vars c; self = f.self; inv = f.inv })))
+          sound_begin G (set H x t) t id s _ f (λ s f. sound_then H (set H x t) t t _ _ (sound h ok (looks_first _ _ _ u) s f)
+          (λ v s c f. (c, record { vars = fits_bind H s.vars x t v f.vars c; self = f.self; inv = f.inv })))
       sound (JudgedPrint {G = G} {G1 = H} {id = id} {t = t} h) ok u s f =
           sound_begin G H ty.Nil id s _ f (λ s f. sound_then H H t ty.Nil _ _ (sound h ok (looks_first _ _ _ u) s f) (λ v s c f. printed_sound H id (shown p v) s f))
       sound (JudgedToStr {G = G} {G1 = H} {id = id} {t = t} h) ok u s f =
@@ -277,7 +240,8 @@ module _ (Inv : Rest) (me : ℕ) where
       sound (JudgedNot {G = G} {G1 = H} {id = id} {t = t} h) ok u s f =
           sound_begin G H ty.Bool id s _ f (λ s f. sound_then H H t ty.Bool _ _ (sound h ok (looks_first _ _ _ u) s f) (λ v s c f. (refl, f)))
       sound (JudgedBinary {G = G} {G1 = G1} {G2 = H} {id = id} {o = o} {s = a} {t = b} h k p q) ok u s f =
-          sound_begin G H (operator_type o) id s _ f (λ s f. sound_then G1 H a (operator_type o) _ _ (sound h ok (looks_first _ _ _ u) s f) (λ v s c f. sound_then H H b (operator_type o) _ _ (sound k ok (looks_first _ _ _ (looks_then _ _ _ _ _ (judge_of h) u)) s f) (λ w s d f. operate_sound H id o v w a b s c d p q f)))
+          sound_begin G H (operator_type o) id s _ f (λ s f. sound_then G1 H a (operator_type o) _ _ (sound h ok (looks_first _ _ _ u) s f)
+          (λ v s c f. sound_then H H b (operator_type o) _ _ (sound k ok (looks_first _ _ _ (looks_then _ _ _ _ _ (judge_of h) u)) s f) (λ w s d f. operate_sound H id o v w a b s c d p q f)))
       sound (JudgedIf {G = G} {G1 = G1} {Ga = Ga} {Gb = Gb} {id = id} {r = r} {s = a} {t = b} h k l) ok u s f =
           sound_begin G (join Ga Gb) (join_of a b) id s _ f (λ s f. sound_then G1 (join Ga Gb) r (join_of a b) _ _ (sound h ok (looks_first _ _ _ u) s f) (λ v s c f.
           sound_if (join Ga Gb) (join_of a b) (is_false v) _ _
@@ -287,21 +251,29 @@ module _ (Inv : Rest) (me : ℕ) where
           sound_begin G G1 ty.Nil id s _ f (λ s f. loop_sound G G1 H r t _ _ (λ s f. sound h ok (looks_first _ _ _ u) s f) (λ s f. sound k ok (looks_first _ _ _ (looks_then _ _ _ _ _ (judge_of h) u)) s f) p s f)
       sound (JudgedCall {G = G} {G1 = G1} {G2 = H} {id = id} {m = m} {c = c} {ts = ts} {s = declared} h k p n q) ok u s f =
           sound_begin G H declared.result id s _ f (λ s f. sound_then G1 H (ty.Class c) declared.result _ _ (sound h ok (looks_first _ _ _ u) s f) (λ r s d f.
-          sound_args k ok (looks_first _ _ _ (looks_then _ _ _ _ _ (judge_of h) u)) H declared.result [] _ (λ us s e f. ok.calls H id m c r us ts declared s (looks_head _ _ _ _ (looks_then _ _ _ _ _ (args_of k) (looks_then _ _ _ _ _ (judge_of h) u))) p d e n q f) s tt f))
+          sound_args k ok (looks_first _ _ _ (looks_then _ _ _ _ _ (judge_of h) u)) H declared.result [] _
+          (λ us s e f. ok.calls H id m c r us ts declared s (looks_head _ _ _ _ (looks_then _ _ _ _ _ (args_of k) (looks_then _ _ _ _ _ (judge_of h) u))) p d e n q f) s tt f))
       sound (JudgedDef {G = G} {id = id} {c = c} {m = m} {s = site}) ok u s f = sound_begin G G ty.Nil id s _ f (λ s f. define_sound ok.reads G names id (c, bytes_at p.names m) site s f)
       sound (JudgedDefComputed {G = G} {G1 = H} {id = id} {c = c} {s = site} {t = a} h le) ok u s f =
-          sound_begin G H ty.Nil id s _ f (λ s f. sound_then H H a ty.Nil _ _ (sound h ok (looks_first _ _ _ u) s f) (λ v s d f. named_sound H a ty.Nil id v s _ d le (λ bytes. define_sound ok.reads H names id (c, bytes) site s f)))
-      sound (JudgedDeclare {G = G} {id = id} {c = c} {m = m} {s = site} {asks = asks}) ok u s f = sound_begin G G (declaration_type asks) id s _ f (λ s f. declare_sound ok.reads G names id asks (c, bytes_at p.names m) site s f)
+          sound_begin G H ty.Nil id s _ f (λ s f. sound_then H H a ty.Nil _ _ (sound h ok (looks_first _ _ _ u) s f)
+          (λ v s d f. named_sound H a ty.Nil id v s _ d le (λ bytes. define_sound ok.reads H names id (c, bytes) site s f)))
+      sound (JudgedDeclare {G = G} {id = id} {c = c} {m = m} {s = site} {asks = asks}) ok u s f = sound_begin G G (declaration_type asks) id s _ f
+          (λ s f. declare_sound ok.reads G names id asks (c, bytes_at p.names m) site s f)
       sound (JudgedDeclareComputed {G = G} {G1 = H} {id = id} {c = c} {s = site} {asks = asks} {t = a} h le) ok u s f =
-          sound_begin G H (declaration_type asks) id s _ f (λ s f. sound_then H H a (declaration_type asks) _ _ (sound h ok (looks_first _ _ _ u) s f) (λ v s d f. named_sound H a (declaration_type asks) id v s _ d le (λ bytes. declare_sound ok.reads H names id asks (c, bytes) site s f)))
+          sound_begin G H (declaration_type asks) id s _ f (λ s f. sound_then H H a (declaration_type asks) _ _ (sound h ok (looks_first _ _ _ u) s f)
+          (λ v s d f. named_sound H a (declaration_type asks) id v s _ d le (λ bytes. declare_sound ok.reads H names id asks (c, bytes) site s f)))
       sound (JudgedBlock h) ok u s f = sound_items h ok u value.Nil s refl f
 
-      sound_items : {Uses : Key → Type 0} {types : Types} {G G2 : Variables} {es : Forest} {r t : Ty} → JudgedItems types me G es r G2 t → AreSound Inv me Uses types call → LooksIn Uses (events_items types me es G r) → (v : Value) (s : St) → Conforms v r → Stands Inv me G s → Sound Inv me G2 t (ev_items p names call es v s)
+      sound_items : {Uses : Key → Type 0} {types : Types} {G G2 : Variables} {es : Forest} {r t : Ty} → JudgedItems types me G es r G2 t → AreSound Inv me Uses types call
+          → LooksIn Uses (events_items types me es G r) → (v : Value) (s : St) → Conforms v r → Stands Inv me G s → Sound Inv me G2 t (ev_items p names call es v s)
       sound_items JudgedNoItem ok u v s c f = (c, f)
-      sound_items (JudgedItem {G1 = G1} {G2 = H} {s = a} {t = t} h k) ok u v s c f = sound_then G1 H a t _ _ (sound h ok (looks_first _ _ _ u) s f) (λ w s d f. sound_items k ok (looks_then _ _ _ _ _ (judge_of h) u) w s d f)
+      sound_items (JudgedItem {G1 = G1} {G2 = H} {s = a} {t = t} h k) ok u v s c f = sound_then G1 H a t _ _ (sound h ok (looks_first _ _ _ u) s f)
+          (λ w s d f. sound_items k ok (looks_then _ _ _ _ _ (judge_of h) u) w s d f)
 
-      sound_args : {Uses : Key → Type 0} {types : Types} {G G2 : Variables} {es : Forest} {ss ts : List Ty} → JudgedArgs types me G es ss G2 ts → AreSound Inv me Uses types call → LooksIn Uses (events_args types me es G ss)
-          → (H : Variables) (t : Ty) (vs : List Value) (go : List Value → St → Answer) → ((us : List Value) (s : St) → AllConform us ts → Stands Inv me G2 s → Sound Inv me H t (go us s)) → (s : St) → AllConform vs ss → Stands Inv me G s → Sound Inv me H t (ev_arguments p names call es vs go s)
+      sound_args : {Uses : Key → Type 0} {types : Types} {G G2 : Variables} {es : Forest} {ss ts : List Ty} → JudgedArgs types me G es ss G2 ts → AreSound Inv me Uses types call
+          → LooksIn Uses (events_args types me es G ss)
+          → (H : Variables) (t : Ty) (vs : List Value) (go : List Value → St → Answer) → ((us : List Value) (s : St) → AllConform us ts → Stands Inv me G2 s → Sound Inv me H t (go us s))
+          → (s : St) → AllConform vs ss → Stands Inv me G s → Sound Inv me H t (ev_arguments p names call es vs go s)
       sound_args JudgedNoArg ok u H t vs go g s c f = g vs s c f
       sound_args (JudgedArg {G1 = G1} {s = a} {ss = ss} h k) ok u H t vs go g s c f =
           sound_then G1 H a t _ _ (sound h ok (looks_first _ _ _ u) s f) (λ v s d f. sound_args k ok (looks_then _ _ _ _ _ (judge_of h) u) H t (vs ++ v ∷ []) go g s (conform_more vs ss v a c d) f)

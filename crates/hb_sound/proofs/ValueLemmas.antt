@@ -2,9 +2,8 @@
 use Rattle.std.proofs.Common.{◌≡◌, ℕ, suc, List, [], ◌∷◌, ◌++◌, length, map, Option, Some, None, Bool, true, false, refl, sym, ap, ◌∙◌, subst, nat_eq, eq-eqb}
 use Rattle.std.specs.Prelude.{if◌then◌else◌}
 use Rattle.std.proofs.lemmas.Bool.{eqb-true}
-use Rattle.hb_types.specs.declared.types.Ty.{Ty}
+use Rattle.hb_types.specs.declared.{types.Ty.Ty, types.MethodTy.MethodTy}
 use Rattle.hb_types.specs.declared.types.Ty.TheVariants as ty
-use Rattle.hb_types.specs.declared.types.MethodTy.{MethodTy}
 use Rattle.hb_types.specs.Types.{IsBelow, below_itself, nil_below, below_any, is_below, join_of, params_of}
 use Rattle.hb_types.specs.Variables.{Variables, get, set, both, join, keeps}
 use Rattle.hb_types.proofs.Below.{is_below_of, is_below_from}
@@ -13,9 +12,8 @@ use Rattle.hb_deriv.specs.Judge.{all_below, parameters}
 use Rattle.hb_deriv.proofs.JudgementLemmas.{and_both}
 use Rattle.hb_tables.specs.Verdicts.{takes}
 use Rattle.hb_eval.specs.declared.value.Value.{Value}
-use Rattle.hb_eval.specs.Values.{kind_of}
+use Rattle.hb_eval.specs.{Values.kind_of, Calls.bindings}
 use Rattle.hb_eval.specs.State.{Bindings, value_at, bind}
-use Rattle.hb_eval.specs.Calls.{bindings}
 use Rattle.hb_sound.specs.Sound.{Conforms, Fits, AllConform}
 
 pub below_refl : (a : Ty) → is_below a a ≡ true
@@ -133,11 +131,11 @@ taken vs ts m h n b = let e = eq-eqb (length (map kind_of vs)) m.count (kinds_le
 
 -- arguments that are taken fit the parameters
 pub params_fit : (xs : List ℕ) (ts : List Ty) (vs : List Value) → length (map kind_of vs) ≡ length xs → all_below (map kind_of vs) ts ≡ true → Fits (parameters xs ts) (bindings xs vs)
-params_fit [] ts vs l b y u h = absurd (cc)
-params_fit (x ∷ xs) [] vs l b y u h = absurd (cc)
-params_fit (x ∷ xs) (t ∷ ts) [] l b y u h = absurd (cc)
 params_fit (x ∷ xs) (t ∷ ts) (v ∷ vs) l b y u h = go (nat_eq x y) refl h (params_fit xs ts vs (cc l) (and_both _ _ b).1 y u)
   where
-    go : (i : Bool) → nat_eq x y ≡ i → (if i then Some t else get (parameters xs ts) y) ≡ Some u → (get (parameters xs ts) y ≡ Some u → (w : Value) × (value_at (bindings xs vs) y ≡ Some w) × Conforms w u) → (w : Value) × ((if nat_eq x y then Some v else value_at (bindings xs vs) y) ≡ Some w) × Conforms w u
+    go : (i : Bool) → nat_eq x y ≡ i → (if i then Some t else get (parameters xs ts) y) ≡ Some u
+        → (get (parameters xs ts) y ≡ Some u → (w : Value) × (value_at (bindings xs vs) y ≡ Some w) × Conforms w u)
+        → (w : Value) × ((if nat_eq x y then Some v else value_at (bindings xs vs) y) ≡ Some w) × Conforms w u
     go true e h r = (v, rw e refl, subst (Conforms v) (some_same t u h) (and_both _ _ b).0)
     go false e h r = let w = r h in (w.0, rw e w.1, w.2)
+params_fit _ ts vs l b y u h = absurd (cc)

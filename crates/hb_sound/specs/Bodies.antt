@@ -1,26 +1,16 @@
 -- The bodies of frames, in the tables at their Calls.
 use Rattle.std.specs.Prelude.{◌≡◌, ℕ, List, map, Option, Some, true}
-use Rattle.hb_types.specs.declared.ids.BodySite.{BodySite}
-use Rattle.hb_types.specs.declared.types.Ty.{Ty}
-use Rattle.hb_types.specs.declared.types.MethodTy.{MethodTy}
-use Rattle.hb_types.specs.Types.{is_below}
-use Rattle.hb_types.specs.Variables.{Variables}
+use Rattle.hb_types.specs.declared.{ids.BodySite.BodySite, types.Ty.Ty, types.MethodTy.MethodTy}
+use Rattle.hb_types.specs.{Types.is_below, Variables.Variables}
 use Rattle.hb_tree.specs.declared.parts.Body.{Body}
-use Rattle.hb_tree.specs.Table.{Table}
-use Rattle.hb_tree.specs.Nodes.{params_of}
-use Rattle.hb_tree.specs.Tree.{Tree}
-use Rattle.hb_deriv.specs.Judge.{variables_of}
-use Rattle.hb_deriv.specs.Judgement.{Judged}
-use Rattle.hb_deriv.specs.Events.{events}
+use Rattle.hb_tree.specs.{Table.Table, Nodes.params_of, Tree.Tree}
+use Rattle.hb_deriv.specs.{Judge.variables_of, Judgement.Judged, Events.events}
 use Rattle.hb_names.specs.Names.{Name, place}
 use Rattle.hb_tables.specs.Rows.{body_at, types_in, type_of_key}
 use Rattle.hb_tables.specs.Verdicts.{subject}
 use Rattle.hb_eval.specs.declared.value.Value.{Value}
-use Rattle.hb_eval.specs.Values.{kind_of}
-use Rattle.hb_eval.specs.State.{St}
-use Rattle.hb_eval.specs.Calls.{bindings}
-use Rattle.hb_sound.specs.Sound.{Fits, LooksIn}
-use Rattle.hb_sound.specs.Frames.{Frame, Holds}
+use Rattle.hb_eval.specs.{Values.kind_of, State.St, Calls.bindings}
+use Rattle.hb_sound.specs.{Sound.Fits, Sound.LooksIn, Frames.Frame, Frames.Holds}
 
 -- The expression is judged in the tables at the frame's Call, by the types of methods whose keys its call holds there.
 pub record IsJudgedIn (t : Table) (names : List Name) (c : ℕ) (f : Frame) (me : ℕ) (G : Variables) (e : Tree) (behind : Variables) (ty : Ty) : Type 0 where

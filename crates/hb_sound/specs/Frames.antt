@@ -1,16 +1,12 @@
 -- The frames of a caller's calls in a history.
 use Rattle.std.specs.Prelude.{◌≡◌, ℕ, ◌<◌, false, List, [], ◌∷◌, ◌++◌, Option}
-use Rattle.hb_types.specs.declared.ids.ClassId.{ClassId}
-use Rattle.hb_types.specs.declared.types.Ty.{Ty}
+use Rattle.hb_types.specs.declared.{ids.ClassId.ClassId, types.Ty.Ty}
 use Rattle.hb_tree.specs.Table.{Table}
 use Rattle.hb_deriv.specs.Judge.{Key}
 use Rattle.hb_names.specs.Names.{Name}
-use Rattle.hb_tables.specs.declared.entry.Act.{Act}
-use Rattle.hb_tables.specs.declared.entry.Entry.{Entry}
-use Rattle.hb_tables.specs.History.{entry}
+use Rattle.hb_tables.specs.declared.{entry.Act.Act, entry.Entry.Entry}
+use Rattle.hb_tables.specs.{History.entry, Names.name_of, Rows.HoldsName}
 use Rattle.hb_tables.specs.Frames.{acts, frees, StaysLive}
-use Rattle.hb_tables.specs.Names.{name_of}
-use Rattle.hb_tables.specs.Rows.{HoldsName}
 use Rattle.hb_eval.specs.State.{Bindings, Answer, Lost, Done, Halt}
 use Rattle.hb_sound.specs.Sound.{Conforms, IsNamed, Rest}
 

@@ -1,9 +1,9 @@
 -- The nodes of a script, and how its run may end.
 use Rattle.std.specs.Prelude.{◌≡◌, ◌⊎◌, ℕ, slice_get, Some}
 use Rattle.hb_tree.specs.declared.parts.Body.{Body}
-use Rattle.hb_tree.specs.Table.{Table}
-use Rattle.hb_tree.specs.TreeAt.{tree_at}
-use Rattle.hb_tree.specs.Tree.{Tree, TNil, TTrue, TFalse, TSelf, TInt, TText, TVar, TNew, TAssign, TPrint, TToStr, TNot, TBinary, TIf, TWhile, TCall, TDef, TDefComputed, TDeclare, TDeclareComputed, TBlock, Forest, NoTree, Trees}
+use Rattle.hb_tree.specs.{Table.Table, TreeAt.tree_at}
+use Rattle.hb_tree.specs.Tree.{Tree, TNil, TTrue, TFalse, TSelf, TInt, TText, TVar, TNew, TAssign, TPrint, TToStr, TNot, TBinary, TIf, TWhile, TCall, TDef, TDefComputed}
+use Rattle.hb_tree.specs.Tree.{TDeclare, TDeclareComputed, TBlock, Forest, NoTree, Trees}
 use Rattle.hb_eval.specs.declared.stop.Outcome.{Outcome}
 use Rattle.hb_eval.specs.declared.stop.Outcome.TheVariants as outcome
 use Rattle.hb_eval.specs.State.{Answer, Lost, Done, Halt}

@@ -1,21 +1,16 @@
 -- What it is not to go wrong.
 use Rattle.std.specs.Prelude.{◌≡◌, ℕ, List, [], ◌∷◌, length, Some, true, false}
-use Rattle.hb_types.specs.declared.ids.ClassId.{ClassId}
-use Rattle.hb_types.specs.declared.types.Ty.{Ty}
+use Rattle.hb_types.specs.declared.{ids.ClassId.ClassId, types.Ty.Ty, types.MethodTy.MethodTy}
 use Rattle.hb_types.specs.declared.types.Ty.TheVariants as ty
-use Rattle.hb_types.specs.declared.types.MethodTy.{MethodTy}
-use Rattle.hb_types.specs.Types.{params_of}
-use Rattle.hb_types.specs.Variables.{Variables, get}
+use Rattle.hb_types.specs.{Types.params_of, Variables.Variables, Variables.get}
 use Rattle.hb_deriv.specs.Judge.{Key, Types, all_below}
 use Rattle.hb_deriv.specs.Events.{Events, Look, Done as Finished}
 use Rattle.hb_tables.specs.declared.entry.Act.{Act}
 use Rattle.hb_tables.specs.Frames.{frees}
-use Rattle.hb_eval.specs.declared.value.Value.{Value}
-use Rattle.hb_eval.specs.declared.stop.Stop.{Stop}
+use Rattle.hb_eval.specs.declared.{value.Value.Value, stop.Stop.Stop}
 use Rattle.hb_eval.specs.declared.stop.Stop.TheVariants as stop
-use Rattle.hb_eval.specs.Values.{conforms}
+use Rattle.hb_eval.specs.{Values.conforms, Meaning.Calls}
 use Rattle.hb_eval.specs.State.{Bindings, St, Answer, Lost, Done, Halt, value_at}
-use Rattle.hb_eval.specs.Meaning.{Calls}
 
 -- the value is one of the type
 abbrev pub Conforms : Value → Ty → Type 0

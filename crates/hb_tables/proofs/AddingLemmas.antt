@@ -1,12 +1,8 @@
 -- What a caller's own calls are once its front has grown.
 use Rattle.std.proofs.Common.{◌≡◌, ℕ, Bool, true, false, cond, List, [], ◌∷◌, ◌++◌, sym, refl, ap, ◌∙◌, subst, arith, eq-eqb}
 use Rattle.std.proofs.lemmas.List.{append-nil}
-use Rattle.hb_types.specs.declared.ids.KeyId.{KeyId}
-use Rattle.hb_types.specs.declared.ids.CallNo.{CallNo}
-use Rattle.hb_types.specs.declared.ids.TypeSite.{TypeSite}
-use Rattle.hb_tables.specs.declared.entry.Entry.{Entry}
-use Rattle.hb_tables.specs.declared.entry.Act.{Act}
-use Rattle.hb_tables.specs.declared.entry.Act.TheVariants.{Hold, Free}
+use Rattle.hb_types.specs.declared.{ids.KeyId.KeyId, ids.CallNo.CallNo, ids.TypeSite.TypeSite}
+use Rattle.hb_tables.specs.declared.{entry.Entry.Entry, entry.Act.Act, entry.Act.TheVariants.Hold, entry.Act.TheVariants.Free}
 use Rattle.hb_tables.specs.History.{Spot, spot, same_call, times, without, of_caller, done, entry, journal, Adds}
 use Rattle.hb_tables.proofs.HistoryLemmas.{journal_append, own_times, own_calls, spot_more, turn_here}
 
@@ -33,4 +29,3 @@ none_without x (y ∷ ys) =
       | true ↦ λ _. none_without x ys
       | false ↦ λ ne. (let r = none_without x ys in rw ne (omega (arith, r)))
     ] in seen (same_call x y) refl
-

@@ -39,7 +39,7 @@ own_without c q (y ∷ ys) =
     dite (ℕ_discrete c y.0)
     (λ is. let e = eq-eqb c y.0 is in
     rw e (rw e (elim (eqb q y.1) as (λ b. of_caller c (cond b (without (c, q) ys) (y ∷ without (c, q) ys)) ≡ cond b (without (c, q) (of_caller c ys)) (y ∷ without (c, q) (of_caller c ys)))
-        [ true ↦ r | false ↦ rw e (ap (λ w. y ∷ w) r) ])))
+    [ true ↦ r | false ↦ rw e (ap (λ w. y ∷ w) r) ])))
     (λ ne. let e = ne_eqb c y.0 ne in rw e (rw e r))
 
 pub own_without_other : (c d q : ℕ) (ys : List (ℕ × ℕ)) → c ≢ d → of_caller c (without (d, q) ys) ≡ of_caller c ys
@@ -50,7 +50,7 @@ own_without_other c d q (y ∷ ys) ne =
     (λ is. let e = eq-eqb d y.0 is in let f = ne_eqb c y.0 (λ h. ne (h ∙ sym is)) in
     rw (e, f) (elim (eqb q y.1) as (λ b. of_caller c (cond b (without (d, q) ys) (y ∷ without (d, q) ys)) ≡ of_caller c ys) [ true ↦ r | false ↦ rw f r ]))
     (λ no. let e = ne_eqb d y.0 no in rw e (elim (eqb c y.0) as
-        (λ b. cond b (y ∷ of_caller c (without (d, q) ys)) (of_caller c (without (d, q) ys)) ≡ cond b (y ∷ of_caller c ys) (of_caller c ys)) [ true ↦ ap (λ w. y ∷ w) r | false ↦ r ]))
+    (λ b. cond b (y ∷ of_caller c (without (d, q) ys)) (of_caller c (without (d, q) ys)) ≡ cond b (y ∷ of_caller c ys) (of_caller c ys)) [ true ↦ ap (λ w. y ∷ w) r | false ↦ r ]))
 
 -- those of no caller from n on, less those of n
 but : ℕ → List (ℕ × ℕ) → List (ℕ × ℕ)
@@ -72,7 +72,7 @@ but_other c n (y ∷ ys) ne =
     dite (ℕ_discrete n y.0)
     (λ is. let e = eq-eqb n y.0 is in let f = ne_eqb c y.0 (λ h. ne (h ∙ sym is)) in rw (e, f) r)
     (λ no. let e = ne_eqb n y.0 no in rw e (elim (eqb c y.0) as
-        (λ b. cond b (y ∷ of_caller c (but n ys)) (of_caller c (but n ys)) ≡ cond b (y ∷ of_caller c ys) (of_caller c ys)) [ true ↦ ap (λ w. y ∷ w) r | false ↦ r ]))
+    (λ b. cond b (y ∷ of_caller c (but n ys)) (of_caller c (but n ys)) ≡ cond b (y ∷ of_caller c ys) (of_caller c ys)) [ true ↦ ap (λ w. y ∷ w) r | false ↦ r ]))
 
 but_same : (n : ℕ) (ys : List (ℕ × ℕ)) → of_caller n (but n ys) ≡ []
 unfolding but
@@ -87,10 +87,10 @@ at_most zero m [] none few = omega arith
 at_most zero m (y ∷ ys) none few = let h = none y.0 (omega arith) in absurd (let e = eq-eqb y.0 y.0 refl in cc (rw e at h))
 at_most (suc n) m ys none few =
     let there : (c : ℕ) → n ≤ c → of_caller c (but n ys) ≡ [] = λ c le. dite (ℕ_discrete c n) (λ is. subst (λ d. of_caller d (but n ys) ≡ []) (sym is) (but_same n ys))
-         (λ ne. but_other c n ys ne ∙ none c (omega arith)) in
+    (λ ne. but_other c n ys ne ∙ none c (omega arith)) in
     let less : (c : ℕ) → length (of_caller c (but n ys)) ≤ m = λ c. dite (ℕ_discrete c n)
-         (λ is. let z : length (of_caller c (but n ys)) ≡ 0 = subst (λ d. length (of_caller d (but n ys)) ≡ 0) (sym is) (ap length (but_same n ys)) in omega arith)
-         (λ ne. let z = ap length (but_other c n ys ne) in let f = few c in omega arith) in
+    (λ is. let z : length (of_caller c (but n ys)) ≡ 0 = subst (λ d. length (of_caller d (but n ys)) ≡ 0) (sym is) (ap length (but_same n ys)) in omega arith)
+    (λ ne. let z = ap length (but_other c n ys ne) in let f = few c in omega arith) in
     let r = at_most n m (but n ys) there less in let s = but_length n ys in let f = few n in omega (arith, r, s, f)
 
 pub times_without : (x z : ℕ × ℕ) (ys : List (ℕ × ℕ)) → times x (without z ys) ≤ times x ys

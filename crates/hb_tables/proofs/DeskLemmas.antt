@@ -2,26 +2,15 @@
 use Rattle.std.proofs.Common.{◌≡◌, ℕ, false, List, [], ◌∷◌, ◌++◌, Result, Ok, Err, sym, refl, ap, ◌∙◌, append_assoc}
 use Rattle.std.proofs.lemmas.List.{append-nil}
 use mathlib.Core.List.{IsPrefix}
-use Rattle.hb_types.specs.declared.ids.KeyId.{KeyId}
-use Rattle.hb_types.specs.declared.ids.CallNo.{CallNo}
-use Rattle.hb_types.specs.declared.ids.TypeSite.{TypeSite}
-use Rattle.hb_types.specs.declared.ids.BodySite.{BodySite}
-use Rattle.hb_tables.specs.declared.entry.ArgKinds.{ArgKinds}
-use Rattle.hb_tables.specs.declared.entry.Verdict.{Verdict}
-use Rattle.hb_tables.specs.declared.entry.Entry.{Entry}
-use Rattle.hb_tables.specs.declared.entry.Act.{Act}
-use Rattle.hb_tables.specs.declared.entry.Act.TheVariants.{Retype, Busy, WornType, Define, WornDef, Call}
-use Rattle.hb_tables.specs.declared.desk.Look.{Look}
-use Rattle.hb_tables.specs.declared.desk.TypeAnswer.{TypeAnswer}
+use Rattle.hb_types.specs.declared.{ids.KeyId.KeyId, ids.CallNo.CallNo, ids.TypeSite.TypeSite, ids.BodySite.BodySite}
+use Rattle.hb_tables.proofs.{FrameLemmas.acts_append, FrontLemmas.acts_none, FrontLemmas.adds_act}
+use Rattle.hb_tables.specs.declared.{entry.ArgKinds.ArgKinds, entry.Verdict.Verdict, entry.Entry.Entry, entry.Act.Act, entry.Act.TheVariants.Retype, entry.Act.TheVariants.Busy}
+use Rattle.hb_tables.specs.declared.{entry.Act.TheVariants.WornType, entry.Act.TheVariants.Define, entry.Act.TheVariants.WornDef, entry.Act.TheVariants.Call, desk.Look.Look}
+use Rattle.hb_tables.specs.declared.{desk.TypeAnswer.TypeAnswer, desk.DefAnswer.DefAnswer}
 use Rattle.hb_tables.specs.declared.desk.TypeAnswer.TheVariants as typed
-use Rattle.hb_tables.specs.declared.desk.DefAnswer.{DefAnswer}
 use Rattle.hb_tables.specs.declared.desk.DefAnswer.TheVariants as defined
 use Rattle.hb_tables.specs.History.{spot, times, entry, Adds, Learns}
-use Rattle.hb_tables.specs.Answers.{TypeAdds, DefAdds, Decides}
-use Rattle.hb_tables.specs.Frames.{acts}
-use Rattle.hb_tables.specs.Standing.{stand_done, standing, count_of}
-use Rattle.hb_tables.proofs.FrameLemmas.{acts_append}
-use Rattle.hb_tables.proofs.FrontLemmas.{acts_none, adds_act}
+use Rattle.hb_tables.specs.{Answers.TypeAdds, Answers.DefAdds, Answers.Decides, Frames.acts, Standing.stand_done, Standing.standing, Standing.count_of}
 use Rattle.hb_tables.proofs.StandingLemmas.{standing_append, has_part, standing_stays, held_stands}
 
 -- the acts of a caller that learned

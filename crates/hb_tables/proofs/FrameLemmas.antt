@@ -1,12 +1,10 @@
 -- The frames of a legal list.
 use Rattle.std.proofs.Common.{◌≡◌, ℕ, ◌+◌, ◌≤◌, eqb, Bool, true, false, cond, ◌&&◌, List, [], ◌∷◌, ◌++◌, Option, length, sym, refl, ap, ◌∙◌, subst, arith, eq-eqb, append_assoc}
 use Rattle.std.proofs.lemmas.Bool.{eqb-true}
-use Rattle.hb_types.specs.declared.ids.KeyId.{KeyId}
-use Rattle.hb_types.specs.declared.ids.CallNo.{CallNo}
-use Rattle.hb_types.specs.declared.ids.TypeSite.{TypeSite}
-use Rattle.hb_tables.specs.declared.entry.Entry.{Entry}
-use Rattle.hb_tables.specs.declared.entry.Act.{Act}
-use Rattle.hb_tables.specs.declared.entry.Act.TheVariants.{Hold, Free, Retype, Busy, WornType, Define, WornDef, Call}
+use Rattle.hb_types.specs.declared.{ids.KeyId.KeyId, ids.CallNo.CallNo, ids.TypeSite.TypeSite}
+use Rattle.hb_tables.specs.declared.{entry.Entry.Entry, entry.Act.Act, entry.Act.TheVariants.Hold, entry.Act.TheVariants.Free, entry.Act.TheVariants.Retype}
+use Rattle.hb_tables.specs.declared.{entry.Act.TheVariants.Busy, entry.Act.TheVariants.WornType, entry.Act.TheVariants.Define, entry.Act.TheVariants.WornDef}
+use Rattle.hb_tables.specs.declared.{entry.Act.TheVariants.Call}
 use Rattle.hb_tables.specs.History.{Spot, blank, same_call, times, without, key_of, done, turn, spot_from, spot, entry, IsLegal}
 use Rattle.hb_tables.specs.Frames.{acts, frees, StaysLive, frees_key, KeepsHold}
 use Rattle.hb_tables.proofs.CallLemmas.{same_caller, same_number}
@@ -147,7 +145,7 @@ no_retype limit k c q before rest after d key site legal live once is =
 
 pub held_since : (limit c : ℕ) (before rest : List Entry) (q : CallNo) (key : KeyId) (ty : Option TypeSite) (n : ℕ) → IsLegal limit (before ++ entry c (Hold q key ty n) ∷ rest) → KeepsHold q.0 key.0 (acts c rest)
     → ((spot key.0 (before ++ entry c (Hold q key ty n) ∷ rest)).ty ≡ ty) × ((spot key.0 (before ++ entry c (Hold q key ty n) ∷ rest)).changes ≡ n)
-        × (1 ≤ times (c, q.0) (spot key.0 (before ++ entry c (Hold q key ty n) ∷ rest)).calls)
+    × (1 ≤ times (c, q.0) (spot key.0 (before ++ entry c (Hold q key ty n) ∷ rest)).calls)
 held_since limit c before rest q key ty n legal keeps =
     let e : Entry = entry c (Hold q key ty n) in
     let here : List Entry = before ++ e ∷ [] in

@@ -1,11 +1,9 @@
 -- From the fronts of callers to the whole list.
 use Rattle.std.proofs.Common.{◌≡◌, ◌⊎◌, inl, inr, ℕ, eqb, Bool, true, false, cond, List, [], ◌∷◌, ◌++◌, sym, refl, ap, ◌∙◌, eq-eqb}
 use Rattle.std.proofs.lemmas.List.{append-nil}
-use Rattle.hb_tables.specs.declared.entry.Entry.{Entry}
-use Rattle.hb_tables.specs.declared.entry.Act.{Act}
+use Rattle.hb_tables.specs.{Frames.acts, Fronts.HasFront}
+use Rattle.hb_tables.specs.declared.{entry.Entry.Entry, entry.Act.Act}
 use Rattle.hb_tables.specs.History.{entry, journal, Every, Adds}
-use Rattle.hb_tables.specs.Frames.{acts}
-use Rattle.hb_tables.specs.Fronts.{HasFront}
 use Rattle.hb_tables.proofs.FrameLemmas.{acts_append}
 
 -- an element of two lists joined stands in the first, or in the second

@@ -4,10 +4,9 @@ use mathlib.Core.Logic.{dite}
 use native.Mathlib.Decide.{ℕ_discrete}
 use mathlib.Core.List.{IsPrefix}
 use Rattle.std.proofs.lemmas.List.{append-nil}
-use Rattle.hb_tables.specs.declared.entry.TheConstants.{HOLDS_MAX}
-use Rattle.hb_tables.specs.declared.entry.Entry.{Entry}
-use Rattle.hb_tables.specs.declared.entry.Act.{Act}
-use Rattle.hb_tables.specs.declared.entry.Act.TheVariants.{Hold, Free, Retype, Busy, WornType, Define, WornDef, Call}
+use Rattle.hb_tables.specs.declared.{entry.TheConstants.HOLDS_MAX, entry.Entry.Entry, entry.Act.Act, entry.Act.TheVariants.Hold, entry.Act.TheVariants.Free}
+use Rattle.hb_tables.specs.declared.{entry.Act.TheVariants.Retype, entry.Act.TheVariants.Busy, entry.Act.TheVariants.WornType, entry.Act.TheVariants.Define}
+use Rattle.hb_tables.specs.declared.{entry.Act.TheVariants.WornDef, entry.Act.TheVariants.Call}
 use Rattle.hb_tables.specs.History.{Spot, blank, key_of, done, turn, spot_from, spot, journal, times, without, of_caller, FitsAct, Fits, Every, IsLegal, Sound}
 use Rattle.hb_tables.proofs.CallLemmas.{times_own, own_without, own_without_other, fewer, times_without, times_more, length_without}
 
@@ -88,7 +87,7 @@ own_from : (k c : ℕ) (s t : Spot) (xs : List Entry) → of_caller c s.calls �
 own_from k c s t [] e = e
 own_from k c s t (x ∷ xs) e = dite (ℕ_discrete c x.caller.0)
     (λ is. rw (eq-eqb c x.caller.0 is) (own_from k c (turn k s x) (turn k t x) xs
-        (elim (eqb k (key_of x.act)) as (λ b. of_caller c (cond b (done x.caller.0 s x.act) s).calls ≡ of_caller c (cond b (done x.caller.0 t x.act) t).calls) [
+    (elim (eqb k (key_of x.act)) as (λ b. of_caller c (cond b (done x.caller.0 s x.act) s).calls ≡ of_caller c (cond b (done x.caller.0 t x.act) t).calls) [
       | true ↦ subst (λ d. of_caller c (done d s x.act).calls ≡ of_caller c (done d t x.act).calls) is (own_done c s t x.act e)
       | false ↦ e
     ])))

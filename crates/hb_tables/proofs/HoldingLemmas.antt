@@ -1,18 +1,14 @@
 -- A call holds a key exactly where it began to and has not given it back since.
 use Rattle.std.proofs.Common.{◌≡◌, ◌⊎◌, inl, inr, ⊎_elim, ◌≤◌, ℕ, eqb, Bool, true, false, cond, List, [], ◌∷◌, ◌++◌, Option, sym, refl, ap, ◌∙◌, subst, arith}
 use Rattle.std.proofs.lemmas.Bool.{eqb-true}
-use Rattle.hb_types.specs.declared.ids.KeyId.{KeyId}
-use Rattle.hb_types.specs.declared.ids.CallNo.{CallNo}
-use Rattle.hb_types.specs.declared.ids.TypeSite.{TypeSite}
-use Rattle.hb_tables.specs.declared.entry.Entry.{Entry}
-use Rattle.hb_tables.specs.declared.entry.Act.{Act}
-use Rattle.hb_tables.specs.declared.entry.Act.TheVariants.{Hold, Free, Retype, Busy, WornType, Define, WornDef, Call}
+use Rattle.hb_types.specs.declared.{ids.KeyId.KeyId, ids.CallNo.CallNo, ids.TypeSite.TypeSite}
+use Rattle.hb_tables.proofs.{FrameLemmas.acts_cut, FrameLemmas.held_since, HistoryLemmas.sound}
+use Rattle.hb_tables.specs.declared.{entry.Entry.Entry, entry.Act.Act, entry.Act.TheVariants.Hold, entry.Act.TheVariants.Free, entry.Act.TheVariants.Retype}
+use Rattle.hb_tables.specs.declared.{entry.Act.TheVariants.Busy, entry.Act.TheVariants.WornType, entry.Act.TheVariants.Define, entry.Act.TheVariants.WornDef}
+use Rattle.hb_tables.specs.declared.{entry.Act.TheVariants.Call}
 use Rattle.hb_tables.specs.History.{spot, times, entry, IsLegal}
-use Rattle.hb_tables.specs.Frames.{acts, frees_key, KeepsHold}
+use Rattle.hb_tables.specs.{Frames.acts, Frames.frees_key, Frames.KeepsHold, Holdings.HoldsSince}
 use Rattle.hb_tables.specs.Standing.{Stand, all_but, stand_done, standing_from, standing, count_of}
-use Rattle.hb_tables.specs.Holdings.{HoldsSince}
-use Rattle.hb_tables.proofs.FrameLemmas.{acts_cut, held_since}
-use Rattle.hb_tables.proofs.HistoryLemmas.{sound}
 use Rattle.hb_tables.proofs.StandingLemmas.{count_last, count_but, held_stands}
 
 -- a Hold of the key stands among these acts, with no Free behind it

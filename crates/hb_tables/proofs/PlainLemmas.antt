@@ -1,27 +1,19 @@
 -- An entry that fits keeps what the fields of the plain tables say.
 use Rattle.std.proofs.Common.{◌≡◌, ◌≢◌, Ok, ℕ, zero, suc, ◌+◌, ◌-◌, ◌<◌, ◌≤◌, ◌⊎◌, inl, inr, ⊎_elim, List, [], ◌∷◌, ◌++◌, length, length-append, drop, get_or, set, sym, refl}
 use Rattle.std.proofs.Common.{ap, ◌∙◌, subst, arith, length-set, Some, slice_get, ne_eqb, replicate}
-use Rattle.std.proofs.lemmas.List.{append-nil, drop-append-le, length-replicate}
-use Rattle.std.proofs.lemmas.Option.{slice_get_read}
+use Rattle.std.proofs.{lemmas.List.append-nil, lemmas.List.drop-append-le, lemmas.List.length-replicate, lemmas.Option.slice_get_read}
 use mathlib.Core.List.{IsPrefix}
 use Rattle.hb_tree.proofs.Lists.{each_append}
-use Rattle.hb_types.specs.declared.ids.CallNo.{CallNo}
-use Rattle.hb_types.specs.declared.ids.KeyId.{KeyId}
+use Rattle.hb_types.specs.declared.{ids.CallNo.CallNo, ids.KeyId.KeyId}
 use Rattle.hb_names.specs.declared.names.TheConstants.{NAMES_MAX}
-use Rattle.hb_tables.specs.declared.entry.TheConstants.{HOLDS_MAX, VERSIONS_MAX}
-use Rattle.hb_tables.specs.declared.entry.Entry.{Entry}
-use Rattle.hb_tables.specs.declared.entry.Act.{Act}
-use Rattle.hb_tables.specs.declared.entry.Act.TheVariants.{Hold, Free, Call}
-use Rattle.hb_tables.specs.declared.entry.ArgKinds.{ArgKinds}
-use Rattle.hb_tables.specs.declared.entry.Verdict.{Verdict}
-use Rattle.hb_tables.specs.declared.desk.Look.{Look}
-use Rattle.hb_tables.specs.declared.plain.KeyState.{KeyState}
+use Rattle.hb_tables.specs.declared.{entry.TheConstants.HOLDS_MAX, entry.TheConstants.VERSIONS_MAX, entry.Entry.Entry, entry.Act.Act, entry.Act.TheVariants.Hold}
+use Rattle.hb_tables.specs.declared.{entry.Act.TheVariants.Free, entry.Act.TheVariants.Call, entry.ArgKinds.ArgKinds, entry.Verdict.Verdict, desk.Look.Look}
+use Rattle.hb_tables.specs.declared.{plain.KeyState.KeyState}
 use Rattle.hb_tables.specs.History.{times, of_caller, Spot, spot, key_of, done, journal, entry, FitsAct, IsLegal, Adds, Learns}
 use Rattle.hb_tables.specs.Answers.{IsLookAt, Decides}
 use Rattle.hb_tables.specs.Plain.{Tables, Matches, AreTables, holds_in, AreOwn, IsOpen}
 use Rattle.hb_tables.proofs.HistoryLemmas.{legal_none, legal_more, spread, spot_more, turn_here, turn_else, journal_append, own_calls, sound, redefs_grow, redefs_same}
-use Rattle.hb_tables.proofs.CallLemmas.{length_without, at_most}
-use Rattle.hb_tables.proofs.SumLemmas.{total_zero, total_one, total_at}
+use Rattle.hb_tables.proofs.{CallLemmas.length_without, CallLemmas.at_most, SumLemmas.total_zero, SumLemmas.total_one, SumLemmas.total_at}
 
 get_set : {A : Type 0} (l : List A) (i j : ℕ) (a b : A) → slice_get (set l i a) j ≡ Some b → ((j ≡ i) × (a ≡ b)) ⊎ (slice_get l j ≡ Some b)
 get_set [] i j a b e = absurd cc
@@ -44,7 +36,7 @@ holds_more log e inside =
     let f : ℕ → ℕ = λ k. length (spot k (log ++ e ∷ [])).calls in let g : ℕ → ℕ = λ k. length (spot k log).calls in
     let one = total_one NAMES_MAX (key_of e.act) f g inside (λ j ne. ap (λ (s : Spot). length s.calls) (spot_more j log e ∙ turn_else j (spot j log) e ne)) in
     let here : f (key_of e.act) ≡ length (done e.caller.0 (spot (key_of e.act) log) e.act).calls = ap (λ (s : Spot). length s.calls)
-         (spot_more (key_of e.act) log e ∙ turn_here (key_of e.act) (spot (key_of e.act) log) e refl) in
+    (spot_more (key_of e.act) log e ∙ turn_here (key_of e.act) (spot (key_of e.act) log) e refl) in
     omega (arith, one, here)
 
 callers_more : (log : List Entry) (c : ℕ) (act : Act) → c < 256 → ((d : ℕ) → 256 ≤ d → journal d log ≡ []) → (d : ℕ) → 256 ≤ d → journal d (log ++ entry c act ∷ []) ≡ []

@@ -1,19 +1,15 @@
 -- A verdict is the judgement's, and rests on the types at which its check looks.
 use Rattle.std.proofs.Common.{◌≡◌, ℕ, Bool, true, false, List, [], Option, Some, None, Ok, Err, refl, ap, ◌∙◌}
 use Rattle.std.specs.Prelude.{if◌then◌else◌}
-use Rattle.hb_types.specs.declared.types.Ty.{Ty}
-use Rattle.hb_types.specs.declared.types.MethodTy.{MethodTy}
+use Rattle.hb_types.specs.declared.{types.Ty.Ty, types.MethodTy.MethodTy}
 use Rattle.hb_tree.specs.declared.parts.Body.{Body}
 use Rattle.hb_tree.specs.Table.{Table}
+use Rattle.hb_deriv.proofs.{LookLemmas.looks_alike, JudgementLemmas.body_judged, JudgementLemmas.judge_body_of, FaultLemmas.body_fails_of, FaultLemmas.body_fails_from}
+use Rattle.hb_deriv.specs.{Judgement.IsJudged, Faults.BodyFails}
 use Rattle.hb_deriv.specs.declared.ill.Ill.{Ill}
 use Rattle.hb_deriv.specs.Judge as judgement
 use Rattle.hb_deriv.specs.Judge.{Key, Types, Typed, Subject, judge_body}
-use Rattle.hb_deriv.specs.Judgement.{IsJudged}
-use Rattle.hb_deriv.specs.Faults.{BodyFails}
 use Rattle.hb_deriv.specs.Events.{Events, SameAt, looks, fresh}
-use Rattle.hb_deriv.proofs.LookLemmas.{looks_alike}
-use Rattle.hb_deriv.proofs.JudgementLemmas.{body_judged, judge_body_of}
-use Rattle.hb_deriv.proofs.FaultLemmas.{body_fails_of, body_fails_from}
 use Rattle.hb_tables.specs.declared.entry.Verdict.{Verdict}
 use Rattle.hb_tables.specs.declared.entry.Verdict.TheVariants as verdict
 use Rattle.hb_tables.specs.declared.entry.By.TheVariants as by

@@ -1,17 +1,9 @@
 -- What a desk's answers say.
 use Rattle.std.specs.Prelude.{◌≡◌, ℕ, ◌<◌, List, [], ◌∷◌, ◌++◌, Result, Ok, Err}
-use Rattle.hb_types.specs.declared.ids.KeyId.{KeyId}
-use Rattle.hb_types.specs.declared.ids.TypeSite.{TypeSite}
-use Rattle.hb_tables.specs.declared.entry.Entry.{Entry}
+use Rattle.hb_types.specs.declared.{ids.KeyId.KeyId, ids.TypeSite.TypeSite, ids.BodySite.BodySite, ids.CallNo.CallNo}
+use Rattle.hb_tables.specs.declared.{entry.Entry.Entry, desk.TypeAnswer.TypeAnswer, desk.TypeAnswer.TheVariants.Done, desk.TypeAnswer.TheVariants.Busy}
+use Rattle.hb_tables.specs.declared.{desk.TypeAnswer.TheVariants.Worn, entry.Verdict.Verdict, entry.ArgKinds.ArgKinds, desk.Look.Look, desk.DefAnswer.DefAnswer}
 use Rattle.hb_tables.specs.declared.entry.Act.TheVariants as act
-use Rattle.hb_tables.specs.declared.desk.TypeAnswer.{TypeAnswer}
-use Rattle.hb_tables.specs.declared.desk.TypeAnswer.TheVariants.{Done, Busy, Worn}
-use Rattle.hb_types.specs.declared.ids.BodySite.{BodySite}
-use Rattle.hb_types.specs.declared.ids.CallNo.{CallNo}
-use Rattle.hb_tables.specs.declared.entry.Verdict.{Verdict}
-use Rattle.hb_tables.specs.declared.entry.ArgKinds.{ArgKinds}
-use Rattle.hb_tables.specs.declared.desk.Look.{Look}
-use Rattle.hb_tables.specs.declared.desk.DefAnswer.{DefAnswer}
 use Rattle.hb_tables.specs.declared.desk.DefAnswer.TheVariants as defined
 use Rattle.hb_tables.specs.History.{spot, journal, entry, Adds, Learns}
 

@@ -1,10 +1,7 @@
 -- The types and the definitions that a key was given, in their order.
 use Rattle.std.specs.Prelude.{ℕ, ◌==◌, cond, List, [], ◌∷◌, ◌++◌}
-use Rattle.hb_types.specs.declared.ids.TypeSite.{TypeSite}
-use Rattle.hb_types.specs.declared.ids.BodySite.{BodySite}
-use Rattle.hb_tables.specs.declared.entry.Entry.{Entry}
-use Rattle.hb_tables.specs.declared.entry.Act.{Act}
-use Rattle.hb_tables.specs.declared.entry.Act.TheVariants.{Retype, Define}
+use Rattle.hb_types.specs.declared.{ids.TypeSite.TypeSite, ids.BodySite.BodySite}
+use Rattle.hb_tables.specs.declared.{entry.Entry.Entry, entry.Act.Act, entry.Act.TheVariants.Retype, entry.Act.TheVariants.Define}
 
 -- the type that an act gives the key
 abbrev pub type_given : ℕ → Act → List TypeSite

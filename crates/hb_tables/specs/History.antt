@@ -1,12 +1,10 @@
 -- Entries, the state of one key after them, and which lists of entries are legal.
 use Rattle.std.specs.Prelude.{◌≡◌, ℕ, ◌+◌, ◌<◌, ◌≤◌, ◌==◌, ◌&&◌, Bool, cond, Option, Some, None, List, [], ◌∷◌, ◌++◌, length}
-use Rattle.hb_types.specs.declared.ids.TypeSite.{TypeSite}
-use Rattle.hb_types.specs.declared.ids.BodySite.{BodySite}
+use Rattle.hb_types.specs.declared.{ids.TypeSite.TypeSite, ids.BodySite.BodySite}
 use Rattle.hb_tree.specs.declared.limits.TheConstants.{TYPES_MAX}
-use Rattle.hb_tables.specs.declared.entry.TheConstants.{HOLDS_MAX, BODIES_MAX}
-use Rattle.hb_tables.specs.declared.entry.Entry.{Entry}
-use Rattle.hb_tables.specs.declared.entry.Act.{Act}
-use Rattle.hb_tables.specs.declared.entry.Act.TheVariants.{Hold, Free, Retype, Busy, WornType, Define, WornDef, Call}
+use Rattle.hb_tables.specs.declared.{entry.TheConstants.HOLDS_MAX, entry.TheConstants.BODIES_MAX, entry.Entry.Entry, entry.Act.Act, entry.Act.TheVariants.Hold}
+use Rattle.hb_tables.specs.declared.{entry.Act.TheVariants.Free, entry.Act.TheVariants.Retype, entry.Act.TheVariants.Busy, entry.Act.TheVariants.WornType}
+use Rattle.hb_tables.specs.declared.{entry.Act.TheVariants.Define, entry.Act.TheVariants.WornDef, entry.Act.TheVariants.Call}
 
 -- the state of one key: its type's site and how often that was changed, its definition's site and how often that was changed, and the calls that hold it, each a caller and a number
 pub record Spot : Type 0 where

@@ -1,9 +1,8 @@
 -- Which key each name of a program's methods has among the names of a run.
 use Rattle.std.specs.Prelude.{ℕ, List, Option}
-use Rattle.hb_tree.specs.Table.{Table}
-use Rattle.hb_tree.specs.Canon.{bytes_at}
 use Rattle.hb_deriv.specs.Judge.{Key}
 use Rattle.hb_names.specs.Names.{Name, place}
+use Rattle.hb_tree.specs.{Table.Table, Canon.bytes_at}
 
 -- a class with one of the program's names
 abbrev pub name_of : Table → Key → Name

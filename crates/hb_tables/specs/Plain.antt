@@ -2,9 +2,7 @@
 use Rattle.std.specs.Prelude.{◌≡◌, ℕ, zero, suc, ◌+◌, ◌<◌, ◌≤◌, List, [], length, drop, slice_get, Some}
 use Rattle.std.specs.List.{AllByRecursion}
 use Rattle.hb_names.specs.declared.names.TheConstants.{NAMES_MAX}
-use Rattle.hb_tables.specs.declared.entry.TheConstants.{VERSIONS_MAX}
-use Rattle.hb_tables.specs.declared.entry.Entry.{Entry}
-use Rattle.hb_tables.specs.declared.plain.KeyState.{KeyState}
+use Rattle.hb_tables.specs.declared.{entry.TheConstants.VERSIONS_MAX, entry.Entry.Entry, plain.KeyState.KeyState}
 use Rattle.hb_tables.specs.History.{Spot, spot, journal, IsLegal}
 
 -- whose door was opened last and how many entries there were then, the history, the limit of changes, and for how many more entries there is room

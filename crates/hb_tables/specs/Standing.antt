@@ -1,8 +1,8 @@
 -- The Holds of a call that stand, read from its caller's acts alone.
 use Rattle.std.specs.Prelude.{ℕ, ◌+◌, ◌==◌, cond, Option, List, [], ◌∷◌, ◌++◌}
 use Rattle.hb_types.specs.declared.ids.TypeSite.{TypeSite}
-use Rattle.hb_tables.specs.declared.entry.Act.{Act}
-use Rattle.hb_tables.specs.declared.entry.Act.TheVariants.{Hold, Free, Retype, Busy, WornType, Define, WornDef, Call}
+use Rattle.hb_tables.specs.declared.{entry.Act.Act, entry.Act.TheVariants.Hold, entry.Act.TheVariants.Free, entry.Act.TheVariants.Retype, entry.Act.TheVariants.Busy}
+use Rattle.hb_tables.specs.declared.{entry.Act.TheVariants.WornType, entry.Act.TheVariants.Define, entry.Act.TheVariants.WornDef, entry.Act.TheVariants.Call}
 
 -- a Hold that stands: its key, and the site and the count that it found
 pub record Stand : Type 0 where

@@ -45,7 +45,8 @@ pub enum DefAnswer {
     Worn,
 }
 
-/// One caller's door to the tables. A call that has an entry adds just this entry to what its caller knows, at its own place in one legal history; a call that has none may learn entries of others. Each answer is true at that place.
+/// One caller's door to the tables. A call that has an entry adds just this entry to what its caller knows, at its own
+/// place in one legal history; a call that has none may learn entries of others. Each answer is true at that place.
 pub trait Desk {
     /// The entries that the caller knows.
     ghost front: { Self → List Entry };

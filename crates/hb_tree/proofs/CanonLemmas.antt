@@ -10,12 +10,10 @@ use Rattle.hb_tree.specs.{Spelling.IsClassName, Table.Table}
 use Rattle.hb_tree.specs.declared.{node.Node.Node, node.Placed.Placed}
 use Rattle.hb_tree.specs.declared.node.Node.TheVariants as node
 use Rattle.hb_tree.specs.declared.node.Method.TheVariants as method
-use Rattle.hb_tree.specs.Tree.{Tree, TNil, TBlock}
+use Rattle.hb_tree.specs.{Tree.Tree, Tree.TNil, Tree.TBlock, Roots.IsReachedOnce, Roots.roots, Roots.setup_root, Pieces.Piece, Pieces.mark, Pieces.line_end}
 use Rattle.hb_tree.specs.Nodes.{numbers_of, args_of, items_of, node_at, block_in, parts_of, exprs_of, blocks_of}
 use Rattle.hb_tree.specs.TreeAt.{tree_at, tree_of, tree_of_place, tree_down, forest_at}
 use Rattle.hb_tree.specs.Program.{IsProgram, IsRootIn, IsBlockNode, IsScriptIn, all_parts}
-use Rattle.hb_tree.specs.Roots.{IsReachedOnce, roots, setup_root}
-use Rattle.hb_tree.specs.Pieces.{Piece, mark, line_end}
 use Rattle.hb_tree.specs.Canon.{own, each, wrap, least_left, least_right, op_kind, arguments, otherwise, separated, named, computed, parameters, signature, declares}
 use Rattle.hb_tree.specs.Canon.{name_piece, line, lines_of, class_line, setup_lines, script_lines, pieces_of, canon, bytes_at}
 use Rattle.hb_tree.proofs.Reached.{total, total-append, same, times, before, once_of_distinct, reached_once}

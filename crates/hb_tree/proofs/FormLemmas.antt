@@ -11,8 +11,7 @@ use Rattle.hb_types.specs.declared.{ids.BodySite.BodySite, ids.TypeSite.TypeSite
 use Rattle.hb_tree.specs.declared.{node.Node.Node, node.Method.Method, parts.Body.Body}
 use Rattle.hb_tree.specs.declared.node.Node.TheVariants as node
 use Rattle.hb_tree.specs.declared.node.Method.TheVariants as method
-use Rattle.hb_tree.specs.TreeAt.{tree_of, tree_at, forest_at}
-use Rattle.hb_tree.specs.Pieces.{Piece, mark, joined_paren}
+use Rattle.hb_tree.specs.{TreeAt.tree_of, TreeAt.tree_at, TreeAt.forest_at, Pieces.Piece, Pieces.mark, Pieces.joined_paren}
 use Rattle.hb_tree.specs.Canon.{level, line, wrap, own, each, arguments, separated, otherwise, named, computed, parameters, parameters_of, name_piece, signature, declares}
 
 pub level-tree_of : (t : Table) (part : ℕ → Tree) (id : ℕ) (n : Node) → level (tree_of t part id n) ≡ node_level n

@@ -4,14 +4,12 @@ use Rattle.hb_tree.specs.{Table.Table, Tree.IsBlock, Grows.IsFounded}
 use Rattle.hb_tree.specs.declared.{node.Node.Node, node.Placed.Placed}
 use Rattle.hb_tree.specs.declared.node.Node.TheVariants as node
 use Rattle.std.specs.Option.{option_map, IfSome}
-use Rattle.std.proofs.lemmas.Option.{slice_get_read, slice_get-map, IfSome_then}
-use Rattle.std.proofs.lemmas.List.{length-map}
+use Rattle.std.proofs.{lemmas.Option.slice_get_read, lemmas.Option.slice_get-map, lemmas.Option.IfSome_then, lemmas.List.length-map}
 use Rattle.hb_tree.specs.Nodes.{node_at, exprs_of, blocks_of, AllParts}
 use Rattle.hb_tree.specs.TreeAt.{tree_of, tree_at, IsExprAt, IsBlockAt, HasKinds}
 use Rattle.hb_tree.specs.Program.{IsProgram, HasPlaces, IsKnownIn, IsExprNode, IsBlockNode, IsDeclareNode}
 use Rattle.hb_tree.specs.declared.node.Method.TheVariants as method
-use Rattle.hb_tree.proofs.Lists.{each_weaker}
-use Rattle.hb_tree.proofs.Trees.{tree_at_node, expr_seen, block_seen}
+use Rattle.hb_tree.proofs.{Lists.each_weaker, Trees.tree_at_node, Trees.expr_seen, Trees.block_seen}
 
 -- what was read at a place of a list, whatever the table is called
 pub got : {X : Type 0} (field : Table → List X) (s t : Table) → s ≡ t → (i : ℕ) (x : X) → i < length (field t) → x ≡ get_or (field s) i x → slice_get (field t) i ≡ Some x

@@ -4,8 +4,7 @@ use Rattle.std.specs.Prelude.{if◌then◌else◌, ◌&&◌, All, OnOk, Result, 
 use Rattle.std.proofs.{lemmas.List.append_assoc, lemmas.List.drop_more, Math.Seq.take-length, lemmas.List.Folds.flat_map-map, Math.ListN.drop_of_length-le}
 use Rattle.std.proofs.lemmas.Option.{slice_get-get_or, slice_get_within, same_Some}
 use Rattle.std.specs.List.{flat_map}
-use Rattle.hb_tree.specs.Pieces.{Piece, spell, spell_behind}
-use Rattle.hb_tree.specs.Canon.{separated}
+use Rattle.hb_tree.specs.{Pieces.Piece, Pieces.spell, Pieces.spell_behind, Canon.separated}
 use Rattle.hb_tree.specs.Page.{Page, blank, spaced_behind, written}
 
 spell_behind-append : (spaced : Bool) (ps qs : List Piece) → spell_behind spaced (ps ++ qs) ≡ spell_behind spaced ps ++ spell_behind (spaced_behind spaced ps) qs

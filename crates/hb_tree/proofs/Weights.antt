@@ -11,8 +11,7 @@ use Rattle.hb_tree.proofs.{Lists.each_at, Reached.total, Reached.total-append}
 use Rattle.hb_tree.specs.{Table.Table, Nodes.params_of, Program.IsSpelled}
 use Rattle.hb_tree.specs.declared.{node.Op.Op, parts.Body.Body}
 use Rattle.hb_tree.specs.declared.node.Op.TheVariants as op
-use Rattle.hb_tree.specs.Tree.{Tree, TBlock, NoTree}
-use Rattle.hb_tree.specs.Spelling.{IsName, IsClassName, IsText}
+use Rattle.hb_tree.specs.{Tree.Tree, Tree.TBlock, Tree.NoTree, Spelling.IsName, Spelling.IsClassName, Spelling.IsText}
 use Rattle.hb_tree.specs.Pieces.{Piece, mark, joined_paren, spell_behind}
 use Rattle.hb_tree.specs.Canon.{escape, quoted, bytes_at, name_piece, type_piece, op_kind, declares, level, wrap, separated, signature_of, parameters_of, otherwise}
 

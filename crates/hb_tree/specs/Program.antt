@@ -1,7 +1,6 @@
 -- What makes a table a program.
 use Rattle.std.specs.Prelude.{◌≡◌, ℕ, pos, ◌+◌, ◌^◌, ◌<◌, ◌≤◌, ◌≤ℤ◌, List, [], length, drop, All, slice_get, Option, Some, None, IsSomeAnd, IfSome, nat_eq, bytes_eq, FitsSigned}
-use Rattle.std.specs.Int.{w64}
-use Rattle.std.specs.List.{flat_map, IsDistinct, AllByRecursion}
+use Rattle.std.specs.{Int.w64, List.flat_map, List.IsDistinct, List.AllByRecursion}
 use Rattle.hb_types.specs.declared.{types.TheConstants.PARAMS_MAX, ids.NodeId.NodeId, ids.NameId.NameId, types.Ty.Ty, types.MethodTy.MethodTy}
 use Rattle.hb_tree.specs.{Table.Table, TreeAt.tree_at}
 use Rattle.hb_tree.specs.declared.{limits.TheConstants.CLASSES_MAX, limits.TheConstants.SCRIPTS_MAX, limits.TheConstants.NODES_MAX, limits.TheConstants.TYPES_MAX}

@@ -9,6 +9,8 @@ mod drafts;
 #[cfg(test)]
 mod interruptions;
 #[cfg(test)]
+mod parsing;
+#[cfg(test)]
 mod programs;
 #[cfg(test)]
 mod tokens;

@@ -2,24 +2,18 @@
 use Rattle.std.proofs.Common.{◌≡◌, inl, inr, ℕ, List, Option, Some, None, Bool, true, false, refl, sym, ap, ◌∙◌, arith, length, subst}
 use Rattle.std.proofs.lemmas.List.{length-map}
 use Rattle.std.specs.Prelude.{nat_le, is_none, ◌&&◌, if◌then◌else◌}
-use Rattle.std.specs.Option.{option_map}
-use Rattle.std.specs.List.{list_all}
-use Rattle.hb_lex.specs.declared.faults.LexFail.{LexFail}
-use Rattle.hb_lex.specs.declared.spans.Token.{Token}
+use Rattle.std.specs.{Option.option_map, List.list_all}
+use Rattle.hb_lex.specs.declared.{faults.LexFail.LexFail, spans.Token.Token}
 use Rattle.hb_lex.specs.Text.{HasFault, HasTokens}
 use Rattle.hb_build.specs.declared.faults.ParseFail.{ParseFail}
 use Rattle.hb_build.specs.Said.{Said, said_in}
-use Rattle.hb_types.specs.declared.ids.NameId.{NameId}
-use Rattle.hb_types.specs.declared.ids.NodeId.{NodeId}
-use Rattle.hb_tree.specs.Table.{Table}
-use Rattle.hb_tree.specs.Tree.{Tree}
-use Rattle.hb_tree.specs.TreeAt.{tree_at}
+use Rattle.hb_types.specs.declared.{ids.NameId.NameId, ids.NodeId.NodeId}
+use Rattle.hb_tree.specs.{Table.Table, Tree.Tree, TreeAt.tree_at}
 use Rattle.hb_eval.specs.Told.{is_done}
 use Rattle.hb_parse.specs.Text.{IsFault, IsProgramOf, Says}
 use Rattle.hbird.specs.Answers.{IsOne, IsReadAs, IsRunOf, IsWhole}
 use Rattle.hbird.specs.Faults.{Fault, IsFirstFault, fault_line, lex_fault, parse_fault}
-use Rattle.hbird.specs.Outcomes.{Outcome, faulty}
-use Rattle.hbird.specs.Reports.{ComesTo, is_alone}
+use Rattle.hbird.specs.{Outcomes.Outcome, Outcomes.faulty, Reports.ComesTo, Reports.is_alone}
 use Rattle.hbird.specs.declared.due.Ending.TheVariants.{Done, Stopped, TextRefused}
 
 -- a text says one program or has one first fault

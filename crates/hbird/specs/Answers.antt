@@ -1,20 +1,15 @@
 -- The call's answer, by its words, and by what its source and sink tell before and after.
 use Rattle.std.specs.Prelude.{◌≡◌, ◌≢◌, ◌≤◌, ◌<◌, ◌⊎◌, ℕ, List, Option, Some, None, IsNone, length}
 use Rattle.std.specs.Io.KnownBytes.{Appends, Keeps}
-use Rattle.hb_io.specs.Causes.{Rose}
-use Rattle.hb_io.specs.Moves.{AppendsFront, TakesCount}
+use Rattle.hb_io.specs.{Causes.Rose, Moves.AppendsFront, Moves.TakesCount}
 use Rattle.hb_lex.specs.declared.spans.Token.{Token}
 use Rattle.hb_lex.specs.Text.{HasTokens}
-use Rattle.hb_tree.specs.Table.{Table}
-use Rattle.hb_tree.specs.Program.{IsProgram}
+use Rattle.hb_tree.specs.{Table.Table, Program.IsProgram}
 use Rattle.hb_parse.specs.Text.{IsProgramOf}
 use Rattle.hbird.specs.Faults.{Fault, IsFirstFault, fault_line}
 use Rattle.hbird.specs.Outcomes.{Outcome, faulty, status_of, too_long, words_refused}
 use Rattle.hbird.specs.Reports.{ComesTo, is_alone}
-use Rattle.hbird.specs.declared.due.Ending.TheVariants.{TextRefused, WordsRefused}
-use Rattle.hbird.specs.declared.jobs.Job.{Job}
-use Rattle.hbird.specs.declared.jobs.Job.TheVariants.{Run}
-use Rattle.hbird.specs.declared.top.TheConstants.{LIMIT}
+use Rattle.hbird.specs.declared.{due.Ending.TheVariants.TextRefused, due.Ending.TheVariants.WordsRefused, jobs.Job.Job, jobs.Job.TheVariants.Run, top.TheConstants.LIMIT}
 
 -- what the source and the sink tell at one moment
 pub record Ends : Type 0 where

@@ -1,7 +1,6 @@
 -- The job that the words ask for, or none.
 use Rattle.std.specs.Prelude.{ℕ, List, [], ◌∷◌, Option, Some, None, codes, bytes_eq, if◌then◌else◌}
-use Rattle.hbird.specs.declared.jobs.Job.{Job}
-use Rattle.hbird.specs.declared.jobs.Job.TheVariants.{Run}
+use Rattle.hbird.specs.declared.{jobs.Job.Job, jobs.Job.TheVariants.Run}
 
 -- to run is the one job, and its one word is all
 abbrev pub job_of : List (List ℕ) → Option Job

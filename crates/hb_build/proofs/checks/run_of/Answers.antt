@@ -1,5 +1,4 @@
-use Rattle.std.proofs.Common.{arith}
-use Rattle.std.proofs.lemmas.Bool.{both_ways}
+use Rattle.std.proofs.{Common.arith, lemmas.Bool.both_ways}
 use Rattle.hb_build.proofs.RunLemmas.{run-more, run-stops, run-over}
 use Rattle.hb_build.proofs.checks.run_of.Goals as goal
 

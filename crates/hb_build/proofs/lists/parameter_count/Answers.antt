@@ -1,9 +1,8 @@
 use Rattle.std.proofs.Common.{arith, ℕ, length, reverse, ap, length-append}
 use Rattle.std.proofs.lemmas.List.{drop_all, length-reverse}
+use Rattle.hb_build.proofs.{ParameterLemmas.one-parameter-more, ParameterLemmas.no-parameter-more, lists.parameter_count.Goals.in-Parameter, lists.parameter_count.Goals.in_default}
 use Rattle.hb_build.specs.Sound.{parameters_of}
-use Rattle.hb_build.proofs.ParameterLemmas.{one-parameter-more, no-parameter-more}
 use Rattle.hb_build.proofs.lists.parameter_count.Goals as goal
-use Rattle.hb_build.proofs.lists.parameter_count.Goals.{in-Parameter, in_default}
 
 pub loop-count-preserved : goal.loop-count-preserved
 loop-count-preserved c = elim c.match-matches.branch [

@@ -1,10 +1,10 @@
 use Rattle.std.proofs.Common.{arith, length, reverse, ap, length-append}
 use Rattle.std.proofs.lemmas.List.{drop_all, length-reverse}
 use Rattle.hb_types.specs.declared.types.Ty.{Ty}
+use Rattle.hb_build.proofs.{ParameterLemmas.one-type-more, ParameterLemmas.no-type-more, lists.parameter_type_count.Goals.in-ParameterType}
+use Rattle.hb_build.proofs.{lists.parameter_type_count.Goals.in_default}
 use Rattle.hb_build.specs.Sound.{parameter_types_of}
-use Rattle.hb_build.proofs.ParameterLemmas.{one-type-more, no-type-more}
 use Rattle.hb_build.proofs.lists.parameter_type_count.Goals as goal
-use Rattle.hb_build.proofs.lists.parameter_type_count.Goals.{in-ParameterType, in_default}
 
 pub loop-count-preserved : goal.loop-count-preserved
 loop-count-preserved c = elim c.match-matches.branch [

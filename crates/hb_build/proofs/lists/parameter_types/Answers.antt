@@ -1,8 +1,8 @@
 use Rattle.std.proofs.Common.{◌≡◌, reverse, ◌∙◌}
 use Rattle.hb_build.specs.declared.held.Held.TheVariants as held
-use Rattle.hb_build.proofs.ParameterLemmas.{type-item, types-begin, types-end}
+use Rattle.hb_build.proofs.{ParameterLemmas.type-item, ParameterLemmas.types-begin, ParameterLemmas.types-end, lists.parameter_types.Goals.in-ParameterType+in_ok-push}
+use Rattle.hb_build.proofs.{lists.parameter_types.Goals.in_default}
 use Rattle.hb_build.proofs.lists.parameter_types.Goals as goal
-use Rattle.hb_build.proofs.lists.parameter_types.Goals.{in-ParameterType+in_ok-push, in_default}
 
 pub loop-thing-init : goal.loop-thing-init
 loop-thing-init c = let e = c.new-types.ensures.items in rw e (types-begin (reverse c.args.held.now))

@@ -2,9 +2,9 @@ use Rattle.std.proofs.Common.{◌≡◌, ◌∷◌, [], reverse, ◌∙◌}
 use Rattle.std.proofs.lemmas.List.{map-append}
 use Rattle.hb_build.specs.declared.held.Held.TheVariants as held
 use Rattle.hb_types.specs.declared.ids.NameId.{NameId}
-use Rattle.hb_build.proofs.ParameterLemmas.{parameter-item, parameters-begin, parameters-end}
+use Rattle.hb_build.proofs.{ParameterLemmas.parameter-item, ParameterLemmas.parameters-begin, ParameterLemmas.parameters-end, lists.parameters.Goals.in-Parameter+in_ok-push}
+use Rattle.hb_build.proofs.{lists.parameters.Goals.in_default}
 use Rattle.hb_build.proofs.lists.parameters.Goals as goal
-use Rattle.hb_build.proofs.lists.parameters.Goals.{in-Parameter+in_ok-push, in_default}
 
 pub loop-thing-init : goal.loop-thing-init
 loop-thing-init c = let e = c.new-names.ensures.items in rw e (parameters-begin (reverse c.args.held.now))

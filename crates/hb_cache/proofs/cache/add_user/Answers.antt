@@ -1,5 +1,4 @@
-use Rattle.std.proofs.Common.{◌<◌, length, arith}
-use Rattle.std.proofs.lemmas.Option.{slice_get_read}
+use Rattle.std.proofs.{Common.◌<◌, Common.length, Common.arith, lemmas.Option.slice_get_read}
 use Rattle.hb_cache.proofs.HeldLemmas.{known-set, known-here, on_ok}
 use Rattle.hb_cache.proofs.cache.add_user.Goals as goal
 

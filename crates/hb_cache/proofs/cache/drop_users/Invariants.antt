@@ -1,6 +1,5 @@
 use Rattle.std.proofs.Common.{◌≡◌, ℕ, take, if◌then◌else◌}
-use Rattle.hb_cache.specs.Kept.{kept_at, not_using}
-use Rattle.hb_cache.specs.Held.{has}
+use Rattle.hb_cache.specs.{Kept.kept_at, Kept.not_using, Held.has}
 use Rattle.hb_cache.proofs.cache.drop_users.Given as goal
 
 abbrev pub invariant-loop-user : goal.invariant-loop-user

@@ -2,12 +2,10 @@ use Rattle.std.proofs.Common.{◌≡◌, ◌≤◌, ◌==◌, Option, None, fals
 use Rattle.std.specs.Global.{Vec}
 use Rattle.std.proofs.lemmas.Option.{MatchOption-at_none, none-some, slice_get_past, slice_get_read}
 use Rattle.hb_types.specs.declared.ids.KeyId.{KeyId}
+use Rattle.hb_cache.proofs.{CacheLemmas.using-dropped, cache.drop_using.Goals.in-Some, cache.drop_using.Goals.in_default}
+use Rattle.hb_cache.specs.{Kept.kept_at, Held.has, Held.IsKnown}
 use Rattle.hb_cache.specs.declared.kept.Kept.{Kept}
-use Rattle.hb_cache.specs.Kept.{kept_at}
-use Rattle.hb_cache.specs.Held.{has, IsKnown}
-use Rattle.hb_cache.proofs.CacheLemmas.{using-dropped}
 use Rattle.hb_cache.proofs.cache.drop_using.Goals as goal
-use Rattle.hb_cache.proofs.cache.drop_using.Goals.{in-Some, in_default}
 
 pub returns : goal.returns
 returns c k =

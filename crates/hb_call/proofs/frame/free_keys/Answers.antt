@@ -1,7 +1,6 @@
 use Rattle.std.proofs.Common.{◌+◌, drop, get_or, sym, ap, ◌∙◌, subst}
 use Rattle.hb_tables.specs.declared.entry.Act.TheVariants.{Free}
-use Rattle.hb_tables.specs.History.{Adds, IsLegal}
-use Rattle.hb_tables.specs.Answers.{Fixed}
+use Rattle.hb_tables.specs.{History.Adds, History.IsLegal, Answers.Fixed}
 use Rattle.hb_tables.proofs.StandingLemmas.{held_stands}
 use Rattle.hb_call.specs.Held.{MayFree, stands}
 use Rattle.hb_call.proofs.HeldLemmas.{may_drop, free_stands, free_next, kept_on}

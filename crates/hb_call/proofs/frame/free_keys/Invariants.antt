@@ -1,7 +1,6 @@
 use Rattle.std.proofs.Common.{◌≡◌, ◌++◌, drop}
 use mathlib.Core.List.{IsPrefix}
-use Rattle.hb_tables.specs.History.{IsLegal}
-use Rattle.hb_tables.specs.Frames.{acts}
+use Rattle.hb_tables.specs.{History.IsLegal, Frames.acts}
 use Rattle.hb_call.specs.Held.{HasRoom, MayFree, frees, stands}
 use Rattle.hb_call.proofs.frame.free_keys.Given as goal
 

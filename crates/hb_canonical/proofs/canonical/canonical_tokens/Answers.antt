@@ -1,5 +1,4 @@
-use Rattle.hb_canonical.proofs.CanonicalLemmas.{canonical_pieces}
-use Rattle.hb_canonical.proofs.ProgramTextLemmas.{canonical_program}
+use Rattle.hb_canonical.proofs.{CanonicalLemmas.canonical_pieces, ProgramTextLemmas.canonical_program}
 use Rattle.hb_canonical.proofs.canonical.canonical_tokens.Goals as goal
 
 pub returns-clause-pieces : goal.returns-clause-pieces

@@ -17,7 +17,7 @@ returns-in-Err-Ill-clause-answers g c =
     let block = block_ran c.args.prog.now c.args.class.0 c.args.body.0 c.args.declared.0 c.body-given.result c.type_of-ty.result c.body-given.ensures.value c.type_of-ty.ensures.value
     (rw (c.requires.unanswered, c.requires.unrefused, c.new-notes.ensures.uses, c.new-notes.ensures.steps) refl) c.parameters-env.ensures (rw c.in-Err-Ill.field-0-is at c.in-Err-Ill.ensures.checks) in
     rw c.in-Err-Ill.ill-is (answers_ill c.args.prog.now c.args.class.0 c.args.body.0 c.args.declared.0 c.body-given.result c.type_of-ty.result c.body-given.ensures.value
-        c.type_of-ty.ensures.value c.in-Err-Ill.ill same block)
+    c.type_of-ty.ensures.value c.in-Err-Ill.ill same block)
 
 pub returns-in-Err-Look-clause-answers : goal.returns-in-Err-Look-clause-answers
 returns-in-Err-Look-clause-answers g c =
@@ -26,7 +26,7 @@ returns-in-Err-Look-clause-answers g c =
     let block = block_ran c.args.prog.now c.args.class.0 c.args.body.0 c.args.declared.0 c.body-given.result c.type_of-ty.result c.body-given.ensures.value c.type_of-ty.ensures.value
     (rw (c.requires.unanswered, c.requires.unrefused, c.new-notes.ensures.uses, c.new-notes.ensures.steps) refl) c.parameters-env.ensures (rw c.in-Err-Look.field-0-is at c.in-Err-Look.ensures.checks) in
     rw c.in-Err-Look.cause-is (answers_look c.args.prog.now c.args.class.0 c.args.body.0 c.args.declared.0 c.body-given.result c.type_of-ty.result c.body-given.ensures.value
-        c.type_of-ty.ensures.value c.in-Err-Look.cause same block)
+    c.type_of-ty.ensures.value c.in-Err-Look.cause same block)
 
 pub unreachable-requires : goal.unreachable-requires
 unreachable-requires g c =
@@ -41,7 +41,7 @@ returns-then-below-clause-answers g c =
     let block = block_ran c.args.prog.now c.args.class.0 c.args.body.0 c.args.declared.0 c.body-given.result c.type_of-ty.result c.body-given.ensures.value c.type_of-ty.ensures.value
     (rw (c.requires.unanswered, c.requires.unrefused, c.new-notes.ensures.uses, c.new-notes.ensures.steps) refl) c.parameters-env.ensures c.in-Ok.ensures.checks in
     answers_good c.args.prog.now c.args.class.0 c.args.body.0 c.args.declared.0 c.body-given.result c.type_of-ty.result c.body-given.ensures.value c.type_of-ty.ensures.value _ _ _ _ same
-        (sym c.if-below.ensures.computed) block refl refl refl refl refl
+    (sym c.if-below.ensures.computed) block refl refl refl refl refl
 
 pub returns-in-Ok-clause-answers : goal.returns-in-Ok-clause-answers
 returns-in-Ok-clause-answers g c =
@@ -50,4 +50,4 @@ returns-in-Ok-clause-answers g c =
     let block = block_ran c.args.prog.now c.args.class.0 c.args.body.0 c.args.declared.0 c.body-given.result c.type_of-ty.result c.body-given.ensures.value c.type_of-ty.ensures.value
     (rw (c.requires.unanswered, c.requires.unrefused, c.new-notes.ensures.uses, c.new-notes.ensures.steps) refl) c.parameters-env.ensures c.in-Ok.ensures.checks in
     rw c.bad-else-below.ensures (answers_result c.args.prog.now c.args.class.0 c.args.body.0 c.args.declared.0 c.body-given.result c.type_of-ty.result c.body-given.ensures.value
-        c.type_of-ty.ensures.value _ _ same (sym c.if-below.ensures.computed) block)
+    c.type_of-ty.ensures.value _ _ same (sym c.if-below.ensures.computed) block)

@@ -1,12 +1,11 @@
 use Rattle.std.proofs.Common.{refl, [], ◌∷◌, ◌++◌, ◌+◌, drop, arith, length-append}
 use Rattle.std.proofs.lemmas.Result.{err_from_is_err_and}
-use Rattle.hb_tree.specs.TreeAt.{tree_at, forest_at}
-use Rattle.hb_tree.specs.Counts.{names_assigned_in, names_assigned_in_all}
 use Rattle.hb_types.specs.Variables.{set, join}
 use Rattle.hb_deriv.specs.Programs.{sites_of}
 use Rattle.hb_check.proofs.RunLemmas.{runs_value, within_left, runs_then, runs_from, runs_stop, runs_wider}
 use Rattle.hb_check.proofs.PartLemmas.{call_parts, checks_declare, forest_next, forest_none, names_join_other, runs_ended_early, runs_last, runs_ended, runs_begun, runs_full}
 use Rattle.hb_check.proofs.PartLemmas.{runs_grouped, runs_ruled, within_turned, within_set}
+use Rattle.hb_tree.specs.{TreeAt.tree_at, TreeAt.forest_at, Counts.names_assigned_in, Counts.names_assigned_in_all}
 use Rattle.hb_check.proofs.expressions.+expressions.Goals as goal
 
 pub check_part-returns-in_err-check_node-clause-checks : goal.check_part-returns-in_err-check_node-clause-checks
@@ -113,7 +112,7 @@ check_if-returns-clause-checks g t c =
     rw c.join.ensures (runs_grouped _ then other (runs_then _ _ c.in_ok-check_node.ensures.checks
     (runs_from _ _ c.in_ok-then.ensures.checks (within_left _ _)
     (runs_ended _ _ (join Ga Gb) b (λ sound y h. (b.ran sound).leaves.1 y (names_join_other Ga Gb y h))
-        (rw c.join-2.ensures at (c.finish.ensures (sites_of c.args.scene.prog.now) (join Ga Gb) (g.L.Lookup.answers c.check_node-3.new.look) (g.L.Lookup.refused c.check_node-3.new.look)))))))
+    (rw c.join-2.ensures at (c.finish.ensures (sites_of c.args.scene.prog.now) (join Ga Gb) (g.L.Lookup.answers c.check_node-3.new.look) (g.L.Lookup.refused c.check_node-3.new.look)))))))
 
 pub check_while-returns-clause-checks : goal.check_while-returns-clause-checks
 check_while-returns-clause-checks g t c =

@@ -12,7 +12,7 @@ pub returns-in_err-push-in-Some-clause-runs : goal.returns-in_err-push-in-Some-c
 returns-in_err-push-in-Some-clause-runs g c none G =
     let p = err_from_is_err_and c.from_residual-in_err-push-in-Some.result c.from_residual-in_err-push-in-Some.ensures.1 in
     rw (p.1, p.2) (runs_forgotten (sites_of c.args.prog.now) G c.args.node c.args.class c.args.name _ _ _ c.in-Some.site _ _ _ _ none
-        (rw c.in-Some.is at c.in_ok-type_of.ensures.answer.0) c.in_ok-type_of.ensures.answer.1 c.in_err-push-in-Some.ensures.items)
+    (rw c.in-Some.is at c.in_ok-type_of.ensures.answer.0) c.in_ok-type_of.ensures.answer.1 c.in_err-push-in-Some.ensures.items)
 
 pub returns-in-None-clause-runs : goal.returns-in-None-clause-runs
 returns-in-None-clause-runs g c none G =
@@ -21,4 +21,4 @@ returns-in-None-clause-runs g c none G =
 pub returns-in_ok-push-in-Some-clause-runs : goal.returns-in_ok-push-in-Some-clause-runs
 returns-in_ok-push-in-Some-clause-runs g c none G =
     runs_found (sites_of c.args.prog.now) G c.args.node c.args.class c.args.name _ _ _ c.in-Some.site _ _ _ _ _ (c.declared.ensures.value G) none
-        (rw c.in-Some.is at c.in_ok-type_of.ensures.answer.0) c.in_ok-type_of.ensures.answer.1 c.in_ok-push-in-Some.ensures.items
+    (rw c.in-Some.is at c.in_ok-type_of.ensures.answer.0) c.in_ok-type_of.ensures.answer.1 c.in_ok-push-in-Some.ensures.items

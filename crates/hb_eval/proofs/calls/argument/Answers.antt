@@ -1,14 +1,10 @@
 use Rattle.std.proofs.Common.{◌≡◌, ◌-◌, ◌+◌, ℕ, suc, ◌∷◌, ◌++◌, [], length, length-append, refl, sym, ap, ◌∙◌, subst, arith, add-one}
 use Rattle.std.proofs.lemmas.Result.{IfOk-weaker}
 use Rattle.hb_tree.specs.TreeAt.{tree_at}
-use Rattle.hb_eval.specs.declared.state.State.{State}
-use Rattle.hb_eval.specs.declared.state.Hand.{Hand}
-use Rattle.hb_eval.specs.Machine.{arguments_from}
+use Rattle.hb_eval.specs.declared.{state.State.State, state.Hand.Hand}
+use Rattle.hb_eval.specs.{Machine.arguments_from, Values.IsKnown}
 use Rattle.hb_eval.specs.Turns.{Goes, Reads, with_operands, after}
-use Rattle.hb_eval.proofs.ArgumentLemmas.{argument_came, turned_before}
-use Rattle.hb_eval.specs.Values.{IsKnown}
-use Rattle.hb_eval.proofs.GoesLemmas.{pushed_goes}
-use Rattle.hb_eval.proofs.TurnLemmas.{reads_before}
+use Rattle.hb_eval.proofs.{ArgumentLemmas.argument_came, ArgumentLemmas.turned_before, GoesLemmas.pushed_goes, TurnLemmas.reads_before}
 use Rattle.hb_eval.proofs.calls.argument.Goals as goal
 
 pub returns-clause-turned : goal.returns-clause-turned
@@ -24,7 +20,9 @@ returns-clause-turned g c =
     IfOk-weaker c.next_argument.result _ _ (λ (h : Hand) x. turned_before t _ _ _ _ (suc (c.args.count + 1)) (suc c.args.count) 0 1 2 c.args.frames.now.items old mid frames new _ _ _ _ h
     (λ m r. reads_before _ _ _ _ old mid new _ _ _ refl refl refl
     (argument_came t c.args.id c.args.count at c.args.frames.now.items old mid c.push.new.self c.replace-value.new.dest (omega (arith, c.requires.ready.operands)) pushed refl)
-    (subst (λ (k : ℕ). Reads (g.N.Names.known c.next_argument.new.names) (g.D.Desk.fixed c.args.desk.now).caller (g.D.Desk.front c.args.desk.now) (g.D.Desk.front c.next_argument.new.desk) mid new (with_operands t at (λ w room vs s. arguments_from w room (tree_at t c.args.id.0) k vs s) c.args.frames.now.items mid) (after t m frames new)) (add-one c.args.count)
-    (subst (λ (n : ℕ). Reads (g.N.Names.known c.next_argument.new.names) (g.D.Desk.fixed c.args.desk.now).caller (g.D.Desk.front c.args.desk.now) (g.D.Desk.front c.next_argument.new.desk) mid new (with_operands t n (λ w room vs s. arguments_from w room (tree_at t c.args.id.0) (c.args.count + 1) vs s) c.args.frames.now.items mid) (after t m frames new)) place r)))
+    (subst (λ (k : ℕ). Reads (g.N.Names.known c.next_argument.new.names) (g.D.Desk.fixed c.args.desk.now).caller (g.D.Desk.front c.args.desk.now) (g.D.Desk.front c.next_argument.new.desk) mid new
+        (with_operands t at (λ w room vs s. arguments_from w room (tree_at t c.args.id.0) k vs s) c.args.frames.now.items mid) (after t m frames new)) (add-one c.args.count)
+    (subst (λ (n : ℕ). Reads (g.N.Names.known c.next_argument.new.names) (g.D.Desk.fixed c.args.desk.now).caller (g.D.Desk.front c.args.desk.now) (g.D.Desk.front c.next_argument.new.desk) mid new
+        (with_operands t n (λ w room vs s. arguments_from w room (tree_at t c.args.id.0) (c.args.count + 1) vs s) c.args.frames.now.items mid) (after t m frames new)) place r)))
     (λ m r. pushed_goes t (suc c.args.count) 1 c.args.frames.now.items old mid frames new m c.push.new.self c.replace-value.new.dest pushed refl (subst (IsKnown t) (sym c.replace-value.ensures.after) tt)
     (subst (λ (k : ℕ). Goes t (suc k) 0 1 c.args.frames.now.items mid frames new m) (add-one c.args.count) r)) x) c.next_argument.ensures.turned

@@ -1,14 +1,10 @@
 use Rattle.std.proofs.Common.{◌≡◌, ◌-◌, ℕ, ◌∷◌, ◌++◌, [], length, length-append, refl, sym, ap, ◌∙◌, subst, arith}
 use Rattle.std.proofs.lemmas.Result.{IfOk-weaker}
 use Rattle.hb_tree.specs.TreeAt.{tree_at}
-use Rattle.hb_eval.specs.declared.state.State.{State}
-use Rattle.hb_eval.specs.declared.state.Hand.{Hand}
-use Rattle.hb_eval.specs.Machine.{arguments_from}
+use Rattle.hb_eval.specs.declared.{state.State.State, state.Hand.Hand}
+use Rattle.hb_eval.specs.{Machine.arguments_from, Values.IsKnown}
 use Rattle.hb_eval.specs.Turns.{Reads, with_operands, after}
-use Rattle.hb_eval.proofs.ArgumentLemmas.{receiver_came, turned_before}
-use Rattle.hb_eval.specs.Values.{IsKnown}
-use Rattle.hb_eval.proofs.GoesLemmas.{pushed_goes}
-use Rattle.hb_eval.proofs.TurnLemmas.{reads_before}
+use Rattle.hb_eval.proofs.{ArgumentLemmas.receiver_came, ArgumentLemmas.turned_before, GoesLemmas.pushed_goes, TurnLemmas.reads_before}
 use Rattle.hb_eval.proofs.calls.receiver.Goals as goal
 
 pub returns-clause-turned : goal.returns-clause-turned
@@ -23,5 +19,7 @@ returns-clause-turned g c =
     IfOk-weaker c.next_argument.result _ _ (λ (h : Hand) x. turned_before t _ _ _ _ 1 0 0 1 2 c.args.frames.now.items old mid frames new _ _ _ _ h
     (λ m r. reads_before _ _ _ _ old mid new _ _ _ refl refl refl
     (receiver_came t c.args.id c.args.frames.now.items old mid c.push.new.self c.replace-value.new.dest pushed refl)
-    (subst (λ (n : ℕ). Reads (g.N.Names.known c.next_argument.new.names) (g.D.Desk.fixed c.args.desk.now).caller (g.D.Desk.front c.args.desk.now) (g.D.Desk.front c.next_argument.new.desk) mid new (with_operands t n (λ w room vs s. arguments_from w room (tree_at t c.args.id.0) 0 vs s) c.args.frames.now.items mid) (after t m frames new)) at r))
-    (λ m r. pushed_goes t 0 1 c.args.frames.now.items old mid frames new m c.push.new.self c.replace-value.new.dest pushed refl (subst (IsKnown t) (sym c.replace-value.ensures.after) tt) r) x) c.next_argument.ensures.turned
+    (subst (λ (n : ℕ). Reads (g.N.Names.known c.next_argument.new.names) (g.D.Desk.fixed c.args.desk.now).caller (g.D.Desk.front c.args.desk.now) (g.D.Desk.front c.next_argument.new.desk) mid new
+        (with_operands t n (λ w room vs s. arguments_from w room (tree_at t c.args.id.0) 0 vs s) c.args.frames.now.items mid) (after t m frames new)) at r))
+    (λ m r. pushed_goes t 0 1 c.args.frames.now.items old mid frames new m c.push.new.self c.replace-value.new.dest pushed refl (subst (IsKnown t) (sym c.replace-value.ensures.after) tt) r) x)
+        c.next_argument.ensures.turned

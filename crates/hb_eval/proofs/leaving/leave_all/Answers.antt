@@ -1,10 +1,8 @@
 use Rattle.std.proofs.Common.{◌≡◌, ℕ, List, [], refl, ap, subst, ◌∙◌}
 use Rattle.hb_tree.specs.Table.{Table}
 use Rattle.hb_names.specs.Names.{Name}
-use Rattle.hb_tables.specs.History.{IsLegal}
-use Rattle.hb_tables.specs.Answers.{Fixed}
-use Rattle.hb_call.specs.Held.{HasCall, stands}
-use Rattle.hb_call.specs.Growth.{Grown}
+use Rattle.hb_tables.specs.{History.IsLegal, Answers.Fixed}
+use Rattle.hb_call.specs.{Held.HasCall, Held.stands, Growth.Grown}
 use Rattle.hb_call.specs.GrowthLaws.{prefix_itself, prefix_more, grown_itself, grown_on}
 use Rattle.hb_eval.specs.Holding.{frames_of}
 use Rattle.hb_eval.proofs.HoldingLemmas.{holding_top, holding_last, holding_left}
@@ -30,7 +28,8 @@ loop-framed-preserved g c =
     record {
       holding = (c.loop-framed.invariant.holding.0, holding_left who _ (frames_of c.pop.new.self.items) c.in-Some.framed.frame old new top none others c.leave.ensures.kept);
       kept = prefix_more _ _ _ c.loop-framed.invariant.kept c.leave.ensures.kept;
-      grown = λ t names asked. grown_on t who names names asked asked asked (g.D.Desk.front c.args.desk.now) old new (c.loop-framed.invariant.grown t names asked) (grown t names asked (holding_last _ _ _ _ _ top).called) (prefix_itself names);
+      grown = λ t names asked. grown_on t who names names asked asked asked (g.D.Desk.front c.args.desk.now) old new (c.loop-framed.invariant.grown t names asked)
+          (grown t names asked (holding_last _ _ _ _ _ top).called) (prefix_itself names);
       legal = λ h. legal (c.loop-framed.invariant.legal h);
       fixed = c.leave.ensures.fixed ∙ same;
     }

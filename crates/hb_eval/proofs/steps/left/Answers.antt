@@ -9,7 +9,8 @@ returns-clause-known c known =
     let t = c.args.prog.now in
     rw c.first.ensures.state (record {
       acc = c.taken-value.ensures.known t known.acc;
-      operands = subst (AllByRecursion (IsKnown t)) (sym c.in_ok-push.ensures.items) (pushed_known t c.args.state.now.operands.items c.taken-value.result known.operands (subst (IsKnown t) (sym c.taken-value.ensures.value) known.acc));
+      operands = subst (AllByRecursion (IsKnown t)) (sym c.in_ok-push.ensures.items)
+          (pushed_known t c.args.state.now.operands.items c.taken-value.result known.operands (subst (IsKnown t) (sym c.taken-value.ensures.value) known.acc));
       vars = known.vars;
       class = known.class;
     })

@@ -1,5 +1,4 @@
-use Rattle.hb_grammar.proofs.OneLemmas.{apart, one-place, one-wanted}
-use Rattle.hb_grammar.proofs.ActionLemmas.{one_actions, one_first_actions}
+use Rattle.hb_grammar.proofs.{OneLemmas.apart, OneLemmas.one-place, OneLemmas.one-wanted, ActionLemmas.one_actions, ActionLemmas.one_first_actions}
 use Rattle.hb_grammar.proofs.laws.one_answer.Goals as goal
 
 pub returns-clause-apart : goal.returns-clause-apart

@@ -1,5 +1,4 @@
-use Rattle.std.proofs.Common.{◌++◌, take, arith}
-use Rattle.std.proofs.KnownBytes.{Appends-trans}
+use Rattle.std.proofs.{Common.◌++◌, Common.take, Common.arith, KnownBytes.Appends-trans}
 use Rattle.hb_io.proofs.MoveLemmas.{front-moved}
 use Rattle.hb_io.proofs.whole.write_all_of.Goals as goal
 

@@ -1,7 +1,5 @@
 use Rattle.std.proofs.Common.{◌∙◌, sym, rules}
-use Rattle.std.proofs.lemmas.Iterator.{YieldsList-from_slice}
-use Rattle.std.proofs.lemmas.Iterator.Search.{all_from_yields_List}
-use Rattle.std.proofs.lemmas.List.Folds.{list_all-map}
+use Rattle.std.proofs.{lemmas.Iterator.YieldsList-from_slice, lemmas.Iterator.Search.all_from_yields_List, lemmas.List.Folds.list_all-map}
 use Rattle.hb_eval.specs.Told.{is_done, told_by}
 use Rattle.hb_report.proofs.sections.all_done.Goals as goal
 

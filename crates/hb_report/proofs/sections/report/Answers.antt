@@ -1,7 +1,6 @@
 use Rattle.std.proofs.Common.{◌∙◌, ap, sym}
 use Rattle.std.specs.List.{flat_map}
-use Rattle.std.proofs.lemmas.List.{take_all}
-use Rattle.std.proofs.lemmas.List.Folds.{flat_map-map}
+use Rattle.std.proofs.{lemmas.List.take_all, lemmas.List.Folds.flat_map-map}
 use Rattle.hb_eval.specs.Told.{told_by}
 use Rattle.hb_report.specs.Report.{section}
 use Rattle.hb_report.proofs.sections.report.Goals as goal

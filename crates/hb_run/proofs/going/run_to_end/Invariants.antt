@@ -1,8 +1,7 @@
 use Rattle.std.proofs.Common.{◌+◌, ◌≤◌, length}
 use Rattle.hb_names.specs.declared.names.TheConstants.{NAMES_MAX}
 use Rattle.hb_call.specs.OwnCache.{IsOwnCache}
-use Rattle.hb_eval.specs.Holding.{Holding, frames_of}
-use Rattle.hb_eval.specs.Machines.{IsFineMachine, IsGoing}
+use Rattle.hb_eval.specs.{Holding.Holding, Holding.frames_of, Machines.IsFineMachine, Machines.IsGoing}
 use Rattle.hb_run.specs.Going.{Went}
 use Rattle.hb_run.proofs.going.run_to_end.Given as goal
 

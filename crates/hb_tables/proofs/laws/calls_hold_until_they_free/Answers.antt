@@ -1,6 +1,4 @@
-use Rattle.hb_tables.proofs.HoldingLemmas.{holds_since, since_holds}
-use Rattle.hb_tables.proofs.StandingLemmas.{held_stands}
-use Rattle.hb_tables.proofs.HistoryLemmas.{own_calls}
+use Rattle.hb_tables.proofs.{HoldingLemmas.holds_since, HoldingLemmas.since_holds, StandingLemmas.held_stands, HistoryLemmas.own_calls}
 use Rattle.hb_tables.proofs.laws.calls_hold_until_they_free.Goals as goal
 
 pub returns : goal.returns

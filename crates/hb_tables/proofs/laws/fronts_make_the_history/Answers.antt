@@ -1,6 +1,5 @@
+use Rattle.hb_tables.proofs.{HistoryLemmas.legal_prefix, HistoryLemmas.every_prefix, FrontLemmas.every_of_fronts}
 use Rattle.hb_tables.specs.Rows.{FitsCall}
-use Rattle.hb_tables.proofs.HistoryLemmas.{legal_prefix, every_prefix}
-use Rattle.hb_tables.proofs.FrontLemmas.{every_of_fronts}
 use Rattle.hb_tables.proofs.laws.fronts_make_the_history.Goals as goal
 
 pub returns : goal.returns

@@ -1,7 +1,6 @@
 use Rattle.std.proofs.Common.{rules, [], refl}
 use Rattle.std.proofs.KnownBytes.{Consumes-nil}
-use Rattle.hbird.specs.Answers.{IsDueFor}
-use Rattle.hbird.specs.Outcomes.{words_refused}
+use Rattle.hbird.specs.{Answers.IsDueFor, Outcomes.words_refused}
 use Rattle.hbird.proofs.top.due_for.Goals as goal
 
 pub returns-in_ok-new-in-None-clause-due : goal.returns-in_ok-new-in-None-clause-due

@@ -1,18 +1,15 @@
 use Rattle.std.proofs.Common.{◌≡◌, ◌∷◌, refl, sym, ap, ◌∙◌, List, reverse, inl, arith}
 use Rattle.std.proofs.lemmas.Bool.{cond-true, cond-false}
 use Rattle.hb_tree.specs.Tree.{Tree}
-use Rattle.hb_build.specs.declared.builder.Builder.{Builder}
-use Rattle.hb_build.specs.declared.held.Held.{Held}
+use Rattle.hb_build.specs.declared.{builder.Builder.Builder, held.Held.Held, held.Spot.Spot}
 use Rattle.hb_build.specs.declared.held.Held.TheVariants as held
-use Rattle.hb_build.specs.declared.held.Spot.{Spot}
 use Rattle.hb_build.specs.declared.faults.ParseFail.TheVariants as fail
 use Rattle.hb_build.specs.declared.faults.Limit.TheVariants as limit
 use Rattle.hb_build.specs.Pile.{Slot, Argument, is_full, piled}
 use Rattle.hb_build.specs.Sound.{work_of, things_of}
 use Rattle.hb_build.specs.Acts.{Work, Answer, Goes, with_operand, fails_if}
-use Rattle.hb_build.proofs.PushLemmas.{KeepsRest, things-over}
+use Rattle.hb_build.proofs.{PushLemmas.KeepsRest, PushLemmas.things-over, ArgumentLemmas.arguments-below, ArgumentLemmas.full-below, ArgumentLemmas.room-below}
 use Rattle.hb_build.proofs.ItemLemmas.{has-operand, pile-of-operand, IsUse, sound-used, work-used, good-operand}
-use Rattle.hb_build.proofs.ArgumentLemmas.{arguments-below, full-below, room-below}
 use Rattle.hb_build.proofs.builder.Builder.add_argument.Goals as goal
 
 is : IsUse held.Argument Argument

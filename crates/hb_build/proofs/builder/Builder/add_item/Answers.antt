@@ -1,10 +1,8 @@
 use Rattle.std.proofs.Common.{◌≡◌, ◌∷◌, refl, sym, ap, ◌∙◌, List}
 use Rattle.hb_tree.specs.Tree.{Tree}
-use Rattle.hb_build.specs.declared.builder.Builder.{Builder}
-use Rattle.hb_build.specs.declared.held.Held.{Held}
+use Rattle.hb_build.specs.{Pile.Slot, Pile.Item, Sound.work_of, Sound.things_of}
+use Rattle.hb_build.specs.declared.{builder.Builder.Builder, held.Held.Held}
 use Rattle.hb_build.specs.declared.held.Held.TheVariants as held
-use Rattle.hb_build.specs.Pile.{Slot, Item}
-use Rattle.hb_build.specs.Sound.{work_of, things_of}
 use Rattle.hb_build.specs.Acts.{Work, Answer, Goes, with_operand}
 use Rattle.hb_build.proofs.PushLemmas.{KeepsRest, things-over}
 use Rattle.hb_build.proofs.ItemLemmas.{has-operand, pile-of-operand, IsUse, sound-used, work-used, good-operand}

@@ -1,21 +1,16 @@
 use Rattle.std.proofs.Common.{◌≡◌, ◌∷◌, List, length, reverse, refl, sym, ap, ◌∙◌, inl, arith, true, false}
 use Rattle.std.specs.Prelude.{nat_le}
-use Rattle.std.proofs.lemmas.Bool.{cond-true, cond-false}
-use Rattle.std.proofs.lemmas.Bool.Decides.{nat_tests}
-use Rattle.hb_types.specs.declared.types.Ty.{Ty}
-use Rattle.hb_types.specs.declared.types.TheConstants.{PARAMS_MAX}
+use Rattle.std.proofs.{lemmas.Bool.cond-true, lemmas.Bool.cond-false, lemmas.Bool.Decides.nat_tests}
+use Rattle.hb_types.specs.declared.{types.Ty.Ty, types.TheConstants.PARAMS_MAX}
 use Rattle.hb_draft.specs.Unfinished.{in_hand}
-use Rattle.hb_build.specs.declared.builder.Builder.{Builder}
+use Rattle.hb_build.proofs.{TakeLemmas.top-type, PiledLemmas.types-piled, PushLemmas.KeepsRest, PushLemmas.things-over}
+use Rattle.hb_build.specs.declared.{builder.Builder.Builder, held.Spot.Spot}
 use Rattle.hb_build.specs.declared.held.Held.TheVariants as held
-use Rattle.hb_build.specs.declared.held.Spot.{Spot}
 use Rattle.hb_build.specs.declared.faults.ParseFail.TheVariants as fail
 use Rattle.hb_build.specs.declared.faults.Limit.TheVariants as limit
 use Rattle.hb_build.specs.Pile.{Slot, ParameterType, piled, types_on}
 use Rattle.hb_build.specs.Sound.{work_of, things_of, parameter_types_of}
 use Rattle.hb_build.specs.Acts.{Work, Answer, Goes, with_type, fails_if}
-use Rattle.hb_build.proofs.TakeLemmas.{top-type}
-use Rattle.hb_build.proofs.PiledLemmas.{types-piled}
-use Rattle.hb_build.proofs.PushLemmas.{KeepsRest, things-over}
 use Rattle.hb_build.proofs.RelaidLemmas.{pile-was, good-was, sound-becomes, work-becomes}
 use Rattle.hb_build.proofs.builder.Builder.add_parameter_type.Goals as goal
 

@@ -1,7 +1,5 @@
 use Rattle.std.proofs.Common.{◌≡◌, refl, sym, ap, ◌∙◌, true, false, inl, arith}
-use Rattle.std.specs.Prelude.{nat_eq}
-use Rattle.std.specs.Set.{is_member}
-use Rattle.std.specs.List.{list_any}
+use Rattle.std.specs.{Prelude.nat_eq, Set.is_member, List.list_any}
 use Rattle.hb_build.specs.Sound.{numbers}
 use Rattle.hb_build.proofs.ScopeLemmas.{is_member-numbers, assigns-again, assigns-first}
 use Rattle.hb_build.proofs.builder.Builder.assigns.Goals as goal

@@ -1,12 +1,10 @@
 use Rattle.std.proofs.Common.{◌≡◌, ◌∷◌, reverse, refl, sym, ap, ◌∙◌}
 use Rattle.hb_draft.specs.Unfinished.{in_hand}
+use Rattle.hb_build.proofs.{PushLemmas.things-over, PiledLemmas.parameters-piled}
+use Rattle.hb_build.specs.{Pile.Body, Pile.parameters_on, Acts.Goes}
 use Rattle.hb_build.specs.declared.builder.Builder.{Builder}
 use Rattle.hb_build.specs.declared.held.Held.TheVariants as held
-use Rattle.hb_build.specs.Pile.{Body, parameters_on}
 use Rattle.hb_build.specs.Sound.{IsCount, pile_of, things_of, numbers, parameters_of}
-use Rattle.hb_build.specs.Acts.{Goes}
-use Rattle.hb_build.proofs.PushLemmas.{things-over}
-use Rattle.hb_build.proofs.PiledLemmas.{parameters-piled}
 use Rattle.hb_build.proofs.BegunLemmas.{IsMark, Begins, sound-begun, work-begun, count-params}
 use Rattle.hb_build.proofs.builder.Builder.begin_body.Goals as goal
 
@@ -18,8 +16,13 @@ returns c =
     let rest = c.in_ok-begin_scope.ensures.rest in
     let scope = c.in_ok-begin_scope.ensures.scope in
     let is : IsMark held.Body Body = record { lies = λ things hand. refl; trees = λ things. refl; scopes = λ pile. refl; marks_are = λ pile. refl; pending = λ pile. refl } in
-    let begins : Begins old new = record { draft = ap (λ b. b.draft) rest; outer = c.in_ok-begin_scope.ensures.outer; declaring = ap (λ b. b.declaring) rest; scripts = ap (λ b. b.scripts) rest;
-         depth = ap (λ b. b.depth) rest } in
+    let begins : Begins old new = record {
+      draft = ap (λ b. b.draft) rest;
+      outer = c.in_ok-begin_scope.ensures.outer;
+      declaring = ap (λ b. b.declaring) rest;
+      scripts = ap (λ b. b.scripts) rest;
+      depth = ap (λ b. b.depth) rest;
+    } in
     let things : things_of new ≡ held.Body ∷ things_of old =
     things-over new.held.items begun.held.items held.Body c.in_ok-push.ensures.items ∙ ap (λ (b : Builder). held.Body ∷ things_of b) rest in
     let params : numbers new.scope.variables.items ≡ parameters_on (pile_of old) =

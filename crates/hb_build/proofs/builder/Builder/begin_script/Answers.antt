@@ -1,22 +1,15 @@
 use Rattle.std.proofs.Common.{◌≡◌, ◌<◌, ℕ, ◌∷◌, length, refl, sym, ap, ap₂, ◌∙◌, inl, arith, true, false}
-use Rattle.std.specs.Prelude.{nat_le, nat_eq}
-use Rattle.std.specs.List.{list_any}
-use Rattle.std.proofs.lemmas.Option.{slice_get_within}
-use Rattle.std.proofs.lemmas.Bool.{cond-true, cond-false}
-use Rattle.std.proofs.lemmas.Bool.Decides.{nat_tests}
-use Rattle.std.proofs.lemmas.List.{length-map}
+use Rattle.std.specs.{Prelude.nat_le, Prelude.nat_eq, List.list_any}
+use Rattle.std.proofs.{lemmas.Option.slice_get_within, lemmas.Bool.cond-true, lemmas.Bool.cond-false, lemmas.Bool.Decides.nat_tests, lemmas.List.length-map}
 use Rattle.hb_tree.specs.declared.limits.TheConstants.{SCRIPTS_MAX}
 use Rattle.hb_draft.specs.Unfinished.{scripts_in}
+use Rattle.hb_build.proofs.{SpellingLemmas.IsName-of_kind, GoodLemmas.sound-name, GoodLemmas.work-name, PushLemmas.things-over, ScriptLemmas.any-named}
 use Rattle.hb_build.specs.declared.builder.Builder.{Builder}
 use Rattle.hb_build.specs.declared.held.Held.TheVariants as held
 use Rattle.hb_build.specs.Pile.{Script}
 use Rattle.hb_build.specs.Sound.{IsSound, IsCount, work_of, things_of, pile_of}
 use Rattle.hb_build.specs.Acts.{Work, Goes, number, numbered, push}
-use Rattle.hb_build.proofs.SpellingLemmas.{IsName-of_kind}
-use Rattle.hb_build.proofs.GoodLemmas.{sound-name, work-name}
-use Rattle.hb_build.proofs.PushLemmas.{things-over}
 use Rattle.hb_build.proofs.BegunLemmas.{IsMark, Begins, sound-begun, work-begun, count-empty}
-use Rattle.hb_build.proofs.ScriptLemmas.{any-named}
 use Rattle.hb_build.proofs.builder.Builder.begin_script.Goals as goal
 
 pub name-requires-clause-word : goal.name-requires-clause-word
@@ -66,8 +59,13 @@ returns c =
     let rest = c.in_ok-begin_scope.ensures.rest in
     let scope = c.in_ok-begin_scope.ensures.scope in
     let is : IsMark (held.Script x) (Script x.0) = record { lies = λ things hand. refl; trees = λ things. refl; scopes = λ pile. refl; marks_are = λ pile. refl; pending = λ pile. refl } in
-    let begins : Begins named new = record { draft = ap (λ b. b.draft) rest; outer = c.in_ok-begin_scope.ensures.outer; declaring = ap (λ b. b.declaring) rest; scripts = ap (λ b. b.scripts) rest;
-         depth = ap (λ b. b.depth) rest } in
+    let begins : Begins named new = record {
+      draft = ap (λ b. b.draft) rest;
+      outer = c.in_ok-begin_scope.ensures.outer;
+      declaring = ap (λ b. b.declaring) rest;
+      scripts = ap (λ b. b.scripts) rest;
+      depth = ap (λ b. b.depth) rest;
+    } in
     let things : things_of new ≡ held.Script x ∷ things_of named =
     things-over new.held.items begun.held.items (held.Script x) c.in_ok-push.ensures.items ∙ ap (λ (b : Builder). held.Script x ∷ things_of b) rest in
     let scope_counts : IsCount new.scope (Script x.0 ∷ pile_of named) =

@@ -1,7 +1,6 @@
 use Rattle.std.proofs.Common.{◌≡◌, arith, length, refl}
 use Rattle.std.proofs.lemmas.Bool.Decides.{nat_tests}
-use Rattle.hb_build.specs.Pile.{arguments_on}
-use Rattle.hb_build.specs.Sound.{pile_of}
+use Rattle.hb_build.specs.{Pile.arguments_on, Sound.pile_of}
 use Rattle.hb_build.proofs.CountLemmas.{arguments-counted}
 use Rattle.hb_build.proofs.builder.Builder.begins.Goals as goal
 

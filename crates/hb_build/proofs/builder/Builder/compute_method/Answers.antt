@@ -1,14 +1,11 @@
 use Rattle.std.proofs.Common.{◌≡◌, ℕ, ◌∷◌, List, reverse, refl, sym, ap, ◌∙◌}
 use Rattle.hb_tree.specs.Tree.{Tree}
-use Rattle.hb_build.specs.declared.builder.Builder.{Builder}
+use Rattle.hb_build.proofs.{PushLemmas.KeepsRest, PushLemmas.things-over, MethodTopLemmas.has-computed, MethodTopLemmas.taken}
+use Rattle.hb_build.specs.{Pile.Slot, Pile.Computed, Sound.work_of, Sound.things_of}
+use Rattle.hb_build.specs.declared.{builder.Builder.Builder, held.Spot.Spot}
 use Rattle.hb_build.specs.declared.held.Held.TheVariants as held
-use Rattle.hb_build.specs.declared.held.Spot.{Spot}
-use Rattle.hb_build.specs.Pile.{Slot, Computed}
-use Rattle.hb_build.specs.Sound.{work_of, things_of}
 use Rattle.hb_build.specs.Acts.{Work, Answer, Goes, with_operand, with_class}
-use Rattle.hb_build.proofs.PushLemmas.{KeepsRest, things-over}
 use Rattle.hb_build.proofs.RelaidLemmas.{pile-was, good-was, sound-becomes, work-becomes}
-use Rattle.hb_build.proofs.MethodTopLemmas.{has-computed, taken}
 use Rattle.hb_build.proofs.builder.Builder.compute_method.Goals as goal
 
 -- the action over what lies on top

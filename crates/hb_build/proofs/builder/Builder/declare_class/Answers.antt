@@ -1,12 +1,9 @@
 use Rattle.std.proofs.Common.{◌≡◌, length, sym, ap, ◌∙◌, inl, arith, true, false}
-use Rattle.std.specs.Prelude.{nat_le, bytes_eq}
-use Rattle.std.specs.List.{list_any}
-use Rattle.std.proofs.lemmas.Bool.{cond-true, cond-false}
-use Rattle.std.proofs.lemmas.Bool.Decides.{nat_tests}
+use Rattle.std.specs.{Prelude.nat_le, Prelude.bytes_eq, List.list_any}
+use Rattle.std.proofs.{lemmas.Bool.cond-true, lemmas.Bool.cond-false, lemmas.Bool.Decides.nat_tests}
 use Rattle.hb_tree.specs.declared.limits.TheConstants.{CLASSES_MAX}
 use Rattle.hb_build.specs.Acts.{Goes}
-use Rattle.hb_build.proofs.SpellingLemmas.{IsClassName-of_kind}
-use Rattle.hb_build.proofs.ClassLemmas.{found-any, sound-class, work-class}
+use Rattle.hb_build.proofs.{SpellingLemmas.IsClassName-of_kind, ClassLemmas.found-any, ClassLemmas.sound-class, ClassLemmas.work-class}
 use Rattle.hb_build.proofs.builder.Builder.declare_class.Goals as goal
 
 pub returns-then-is_some : goal.returns-then-is_some

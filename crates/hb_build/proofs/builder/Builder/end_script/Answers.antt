@@ -1,27 +1,20 @@
 use Rattle.std.proofs.Common.{◌≡◌, ℕ, ◌∷◌, ◌++◌, [], List, length, map, reverse, refl, sym, ap, ap₂, ◌∙◌, arith, subst, inl, true, false}
 use Rattle.std.specs.Prelude.{nat_le}
-use Rattle.std.proofs.lemmas.Bool.{cond-true, cond-false}
-use Rattle.std.proofs.lemmas.Bool.Decides.{nat_tests}
-use Rattle.std.proofs.lemmas.List.{length-map, map-append}
+use Rattle.std.proofs.{lemmas.Bool.cond-true, lemmas.Bool.cond-false, lemmas.Bool.Decides.nat_tests, lemmas.List.length-map, lemmas.List.map-append}
 use Rattle.hb_tree.specs.Tree.{Tree}
 use Rattle.hb_tree.specs.declared.limits.TheConstants.{SCRIPTS_MAX}
 use Rattle.hb_draft.specs.Unfinished.{Unfinished, in_hand, HasBlock, IsRootBlock, scripts_in}
 use Rattle.hb_draft.specs.Made.{made_of, script_from}
-use Rattle.hb_build.specs.declared.builder.Builder.{Builder}
-use Rattle.hb_build.specs.declared.held.Held.{Held}
+use Rattle.hb_build.proofs.{RelaidLemmas.pile-was, RelaidLemmas.good-was, ScopeLemmas.numbers-push, BegunLemmas.IsMark, ScriptLemmas.has-script}
+use Rattle.hb_build.specs.declared.{builder.Builder.Builder, held.Held.Held, held.Spot.Spot}
 use Rattle.hb_build.specs.declared.held.Held.TheVariants as held
-use Rattle.hb_build.specs.declared.held.Spot.{Spot}
 use Rattle.hb_build.specs.declared.faults.ParseFail.TheVariants as fail
 use Rattle.hb_build.specs.declared.faults.Limit.TheVariants as limit
 use Rattle.hb_build.specs.Said.{Said, said_of}
 use Rattle.hb_build.specs.Pile.{Slot, Closed, Script, piled}
 use Rattle.hb_build.specs.Sound.{IsCount, work_of, things_of, pile_of, numbers}
 use Rattle.hb_build.specs.Acts.{Work, Answer, Goes, with_closed, with_script, fails_if}
-use Rattle.hb_build.proofs.RelaidLemmas.{pile-was, good-was}
-use Rattle.hb_build.proofs.ScopeLemmas.{numbers-push}
-use Rattle.hb_build.proofs.BegunLemmas.{IsMark}
 use Rattle.hb_build.proofs.EndedLemmas.{Ends, pile-ended, good-ended, sound-ended, root-block}
-use Rattle.hb_build.proofs.ScriptLemmas.{has-script}
 use Rattle.hb_build.proofs.builder.Builder.end_script.Goals as goal
 
 -- the action over what lies on top

@@ -2,16 +2,14 @@ use Rattle.std.proofs.Common.{◌≡◌, ℕ, ◌<◌, ◌∷◌, ◌++◌, [], 
 use Rattle.hb_tree.specs.Tree.{Tree}
 use Rattle.hb_draft.specs.Unfinished.{Unfinished, in_hand, HasBlock, IsRootBlock, scripts_in}
 use Rattle.hb_draft.specs.Made.{made_of, setup_from}
-use Rattle.hb_build.specs.declared.builder.Builder.{Builder}
-use Rattle.hb_build.specs.declared.held.Held.{Held}
+use Rattle.hb_build.proofs.{RelaidLemmas.pile-was, RelaidLemmas.good-was, SetupLemmas.has-setup, SetupLemmas.is-setup}
+use Rattle.hb_build.specs.declared.{builder.Builder.Builder, held.Held.Held}
 use Rattle.hb_build.specs.declared.held.Held.TheVariants as held
 use Rattle.hb_build.specs.Said.{Said, said_of}
 use Rattle.hb_build.specs.Pile.{Slot, Closed, Setup, piled}
 use Rattle.hb_build.specs.Sound.{IsSound, IsGood, IsCount, work_of, things_of, pile_of}
 use Rattle.hb_build.specs.Acts.{Work, Answer, Goes, with_closed, with_setup}
-use Rattle.hb_build.proofs.RelaidLemmas.{pile-was, good-was}
 use Rattle.hb_build.proofs.EndedLemmas.{Ends, pile-ended, good-ended, sound-ended, root-block}
-use Rattle.hb_build.proofs.SetupLemmas.{has-setup, is-setup}
 use Rattle.hb_build.proofs.builder.Builder.end_setup.Goals as goal
 use Rattle.std.proofs.Common.{subst}
 
@@ -65,5 +63,5 @@ returns c =
           ∙ ap Goes (ap₂ work (sym said) (sym (ap (λ b. b.depth) rest))),
       sound-ended old new held.Setup Setup adds.block is-setup ends c.requires.fits.0 good.1
           (ap (λ b. Rattle.hb_build.specs.Sound.numbers b.scripts.items) rest ∙ c.requires.fits.0.named
-              ∙ ap (Rattle.std.proofs.Common.map (λ s. s.0)) (sym (ap (λ (d : Unfinished). scripts_in d.table) draft ∙ adds.script_trees))),
+          ∙ ap (Rattle.std.proofs.Common.map (λ s. s.0)) (sym (ap (λ (d : Unfinished). scripts_in d.table) draft ∙ adds.script_trees))),
     )

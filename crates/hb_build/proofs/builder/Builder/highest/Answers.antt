@@ -1,8 +1,8 @@
 use Rattle.std.proofs.Common.{arith, ◌≡◌, ◌+◌, ◌∙◌, sym, ap, take, max}
 use Rattle.hb_draft.specs.Unfinished.{in_hand}
-use Rattle.hb_build.proofs.HighestLemmas.{tallest, tallest-next, highest-tallest}
+use Rattle.hb_build.proofs.{HighestLemmas.tallest, HighestLemmas.tallest-next, HighestLemmas.highest-tallest, builder.Builder.highest.Goals.then-height-most}
+use Rattle.hb_build.proofs.{builder.Builder.highest.Goals.else-height-most}
 use Rattle.hb_build.proofs.builder.Builder.highest.Goals as goal
-use Rattle.hb_build.proofs.builder.Builder.highest.Goals.{then-height-most, else-height-most}
 
 pub loop-below-preserved : goal.loop-below-preserved
 loop-below-preserved c =

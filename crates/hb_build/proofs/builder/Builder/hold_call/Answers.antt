@@ -1,16 +1,11 @@
 use Rattle.std.proofs.Common.{ℕ, ◌≡◌, ◌<◌, ◌∷◌, ◌++◌, [], length, sym, ap, ◌∙◌, subst}
-use Rattle.std.proofs.lemmas.Option.{slice_get_within}
-use Rattle.std.proofs.lemmas.Bool.{cond-false}
-use Rattle.hb_build.specs.Acts.{push, numbered, Goes}
-use Rattle.hb_build.specs.Pile.{Called}
+use Rattle.std.proofs.{lemmas.Option.slice_get_within, lemmas.Bool.cond-false}
+use Rattle.hb_build.proofs.{SpellingLemmas.IsName-of_kind, GoodLemmas.sound-name, GoodLemmas.work-name, LightLemmas.light-called, ScopeLemmas.count-called, ScopeLemmas.few-called}
+use Rattle.hb_build.specs.{Acts.push, Acts.numbered, Acts.Goes, Pile.Called}
 use Rattle.hb_build.specs.Sound.{IsSound, IsCount, work_of, pile_of}
 use Rattle.hb_build.specs.declared.held.Held.TheVariants as held
 use Rattle.hb_build.specs.declared.builder.Builder.{Builder}
-use Rattle.hb_build.proofs.SpellingLemmas.{IsName-of_kind}
-use Rattle.hb_build.proofs.GoodLemmas.{sound-name, work-name}
 use Rattle.hb_build.proofs.PushLemmas.{IsLight, KeepsRest, sound-over, work-over}
-use Rattle.hb_build.proofs.LightLemmas.{light-called}
-use Rattle.hb_build.proofs.ScopeLemmas.{count-called, few-called}
 use Rattle.hb_build.proofs.builder.Builder.hold_call.Goals as goal
 
 pub name-requires-clause-word : goal.name-requires-clause-word
@@ -33,7 +28,7 @@ returns c =
     let keeps : KeepsRest named new = record { draft = ap (λ b. b.draft) is; outer = ap (λ b. b.outer) is; declaring = ap (λ b. b.declaring) is; scripts = ap (λ b. b.scripts) is } in
     let known : x.0 < length c.name.new.self.table.names = slice_get_within _ _ _ c.in_ok-name.ensures.number in
     let count : IsCount new.scope (slot ∷ pile_of named) = subst (λ s. IsCount s (slot ∷ pile_of named)) (sym (ap (λ b. b.scope) is))
-         (count-called named.scope (pile_of named) x.0 c.args.spot sound.counts.0 c.in_ok-calls.ensures.0) in
+    (count-called named.scope (pile_of named) x.0 c.args.spot sound.counts.0 c.in_ok-calls.ensures.0) in
     let done : IsSound new = sound-over named new thing slot keeps items light sound (known, sound.good) count in
     let over : work_of new ≡ push slot (work_of named) = work-over named new thing slot keeps items light (ap (λ b. b.depth) is) in
     let call = λ (n : ℕ). push (Called n c.args.spot) (numbered c.args.bytes.now (work_of old)) in

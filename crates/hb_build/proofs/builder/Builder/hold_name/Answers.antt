@@ -1,13 +1,9 @@
 use Rattle.std.proofs.Common.{ℕ, ◌≡◌, ◌<◌, length, refl, sym, ap, ◌∙◌}
-use Rattle.std.proofs.lemmas.Option.{slice_get_within}
-use Rattle.std.proofs.lemmas.Bool.{cond-false}
-use Rattle.hb_build.specs.Acts.{push, numbered, Goes}
-use Rattle.hb_build.specs.Pile.{Word}
-use Rattle.hb_build.specs.Sound.{IsSound, work_of, pile_of}
+use Rattle.std.proofs.{lemmas.Option.slice_get_within, lemmas.Bool.cond-false}
+use Rattle.hb_build.proofs.{SpellingLemmas.IsName-of_kind, GoodLemmas.sound-name, GoodLemmas.work-name}
+use Rattle.hb_build.specs.{Acts.push, Acts.numbered, Acts.Goes, Pile.Word, Sound.IsSound, Sound.work_of, Sound.pile_of}
 use Rattle.hb_build.specs.declared.held.Held.TheVariants as held
 use Rattle.hb_build.specs.declared.builder.Builder.{Builder}
-use Rattle.hb_build.proofs.SpellingLemmas.{IsName-of_kind}
-use Rattle.hb_build.proofs.GoodLemmas.{sound-name, work-name}
 use Rattle.hb_build.proofs.PushLemmas.{IsLight, KeepsRest, sound-over, work-over}
 use Rattle.hb_build.proofs.LightLemmas.{light-word, quiet-word, count-over}
 use Rattle.hb_build.proofs.builder.Builder.hold_name.Goals as goal

@@ -1,22 +1,15 @@
 use Rattle.std.proofs.Common.{◌≡◌, ◌<◌, ℕ, ◌∷◌, length, reverse, refl, sym, ap, ap₂, ◌∙◌, inl, arith, true, false}
-use Rattle.std.specs.Prelude.{nat_le, nat_eq}
-use Rattle.std.specs.List.{list_any}
-use Rattle.std.proofs.lemmas.Option.{slice_get_within}
-use Rattle.std.proofs.lemmas.Bool.{cond-true, cond-false}
-use Rattle.std.proofs.lemmas.Bool.Decides.{nat_tests}
-use Rattle.std.proofs.lemmas.List.{length-map}
+use Rattle.std.specs.{Prelude.nat_le, Prelude.nat_eq, List.list_any}
+use Rattle.std.proofs.{lemmas.Option.slice_get_within, lemmas.Bool.cond-true, lemmas.Bool.cond-false, lemmas.Bool.Decides.nat_tests, lemmas.List.length-map}
 use Rattle.hb_types.specs.declared.types.TheConstants.{PARAMS_MAX}
 use Rattle.hb_draft.specs.Unfinished.{in_hand}
+use Rattle.hb_build.proofs.{SpellingLemmas.IsName-of_kind, ScopeLemmas.is_member-numbers, PiledLemmas.parameters-piled, GoodLemmas.sound-name, GoodLemmas.work-name}
+use Rattle.hb_build.proofs.{PushLemmas.KeepsRest, PushLemmas.things-over}
 use Rattle.hb_build.specs.declared.builder.Builder.{Builder}
 use Rattle.hb_build.specs.declared.held.Held.TheVariants as held
 use Rattle.hb_build.specs.Pile.{Parameter, parameters_on}
 use Rattle.hb_build.specs.Sound.{IsSound, work_of, things_of, pile_of, numbers, parameters_of}
 use Rattle.hb_build.specs.Acts.{Work, Goes, number, numbered}
-use Rattle.hb_build.proofs.SpellingLemmas.{IsName-of_kind}
-use Rattle.hb_build.proofs.ScopeLemmas.{is_member-numbers}
-use Rattle.hb_build.proofs.PiledLemmas.{parameters-piled}
-use Rattle.hb_build.proofs.GoodLemmas.{sound-name, work-name}
-use Rattle.hb_build.proofs.PushLemmas.{KeepsRest, things-over}
 use Rattle.hb_build.proofs.RelaidLemmas.{good-was, sound-becomes, work-becomes}
 use Rattle.hb_build.proofs.builder.Builder.hold_parameter.Goals as goal
 

@@ -1,16 +1,11 @@
 use Rattle.std.proofs.Common.{◌≡◌, ℕ, ◌<◌, ◌∷◌, List, length, reverse, refl, sym, ap, ap₂, ◌∙◌}
 use Rattle.std.proofs.lemmas.Option.{slice_get_within}
 use Rattle.hb_draft.specs.Unfinished.{in_hand}
-use Rattle.hb_build.specs.declared.builder.Builder.{Builder}
+use Rattle.hb_build.proofs.{TakeLemmas.top-class, SpellingLemmas.IsName-of_kind, GoodLemmas.sound-name, GoodLemmas.work-name, PushLemmas.KeepsRest, PushLemmas.things-over}
+use Rattle.hb_build.specs.declared.{builder.Builder.Builder, held.Spot.Spot}
 use Rattle.hb_build.specs.declared.held.Held.TheVariants as held
-use Rattle.hb_build.specs.declared.held.Spot.{Spot}
-use Rattle.hb_build.specs.Pile.{Slot, Named, piled}
-use Rattle.hb_build.specs.Sound.{IsSound, work_of, things_of}
+use Rattle.hb_build.specs.{Pile.Slot, Pile.Named, Pile.piled, Sound.IsSound, Sound.work_of, Sound.things_of}
 use Rattle.hb_build.specs.Acts.{Work, Answer, Goes, with_class, numbered, number}
-use Rattle.hb_build.proofs.TakeLemmas.{top-class}
-use Rattle.hb_build.proofs.SpellingLemmas.{IsName-of_kind}
-use Rattle.hb_build.proofs.GoodLemmas.{sound-name, work-name}
-use Rattle.hb_build.proofs.PushLemmas.{KeepsRest, things-over}
 use Rattle.hb_build.proofs.RelaidLemmas.{pile-was, good-was, sound-becomes, work-becomes}
 use Rattle.hb_build.proofs.builder.Builder.name_method.Goals as goal
 

@@ -5,16 +5,14 @@ use Rattle.hb_grammar.specs.declared.actions.Action.TheVariants as a
 use Rattle.hb_tree.specs.declared.limits.TheConstants.{CONSTRUCTS_MAX}
 use Rattle.hb_types.specs.declared.ids.NameId.{NameId}
 use Rattle.hb_draft.specs.Unfinished.{in_hand}
-use Rattle.hb_build.specs.declared.builder.Builder.{Builder}
+use Rattle.hb_build.proofs.{TakeLemmas.top-name, AnswerLemmas.answers-fault}
+use Rattle.hb_build.specs.declared.{builder.Builder.Builder, held.Spot.Spot}
 use Rattle.hb_build.specs.declared.faults.ParseFail.TheVariants as fail
 use Rattle.hb_build.specs.declared.faults.Limit.TheVariants as limit
 use Rattle.hb_build.specs.declared.held.Held.TheVariants as held
-use Rattle.hb_build.specs.declared.held.Spot.{Spot}
 use Rattle.hb_build.specs.Pile.{Slot, Word, Target, has_too_many_variables}
 use Rattle.hb_build.specs.Acts.{Answer, Work, Goes, Fails, opens, opened, fails_if, push, act, with_name}
 use Rattle.hb_build.specs.Sound.{IsSound, IsCount, IsGood, things_of, pile_of, work_of}
-use Rattle.hb_build.proofs.TakeLemmas.{top-name}
-use Rattle.hb_build.proofs.AnswerLemmas.{answers-fault}
 use Rattle.hb_build.proofs.PushLemmas.{KeepsRest, pile-under, sound-under, sound-over, work-over}
 use Rattle.hb_build.proofs.LightLemmas.{light-word, light-target, quiet-word, count-under}
 use Rattle.hb_build.proofs.ScopeLemmas.{count-assigned, few-assigned, many-assigned}
@@ -45,7 +43,7 @@ returns-in_err-assigns c =
     let x = c.take_word.result.0 in
     let does = act-assign old taken c.args.spot c.take_word.result.1 x keeps c.take_word.ensures c.in_ok-opens.ensures in
     let sound = sound-under old taken (held.Word x c.take_word.result.1) (Word x.0 c.take_word.result.1) keeps c.take_word.ensures (light-word x c.take_word.result.1) c.requires.fits.0 (λ g. g.1)
-         (count-under old.scope (Word x.0 c.take_word.result.1) (pile_of taken) (quiet-word x.0 c.take_word.result.1)) in
+    (count-under old.scope (Word x.0 c.take_word.result.1) (pile_of taken) (quiet-word x.0 c.take_word.result.1)) in
     answers-fault _ _ _ _ c.from_residual-in_err-assigns.ensures (elim c.in_err-assigns.ensures.result [
       | inl many ↦ inl (does ∙ cond-true _ _ _ (many-assigned old.scope (pile_of taken) x c.args.spot sound.counts.0 many.1) ∙ ap Fails (sym many.0))
       | inr none ↦ inr none
@@ -69,7 +67,7 @@ returns c =
     let items : new.held.items ≡ taken.held.items ++ thing ∷ [] = c.in_ok-push.ensures.items ∙ ap (λ b. b.held.items ++ thing ∷ []) is.0 in
     let count : IsCount new.scope (slot ∷ pile_of taken) = count-assigned taken.scope new.scope (pile_of taken) x c.args.spot sound.counts.0 (ap (λ b. b.scope) is.0) is.1 in
     let known = (subst (IsGood (length old.draft.table.names) (length old.draft.table.classes))
-         (pile-under old taken (held.Word x c.take_word.result.1) (Word x.0 c.take_word.result.1) keeps c.take_word.ensures (light-word x c.take_word.result.1)) c.requires.fits.0.good).0 in
+    (pile-under old taken (held.Word x c.take_word.result.1) (Word x.0 c.take_word.result.1) keeps c.take_word.ensures (light-word x c.take_word.result.1)) c.requires.fits.0.good).0 in
     let done : IsSound new = sound-over taken new thing slot stays items (light-target x c.args.spot) sound (known, sound.good) count in
     let before : Builder = record assigned { held = c.push.new.self } in
     let keeping : KeepsRest taken before = record { draft = stays.draft; outer = stays.outer; declaring = stays.declaring; scripts = stays.scripts } in

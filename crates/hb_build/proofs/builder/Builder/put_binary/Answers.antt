@@ -1,18 +1,14 @@
 use Rattle.std.proofs.Common.{arith, length, ◌+◌, ◌≤◌, ◌≡◌, ◌∷◌, List, refl, ◌∙◌, sym, ap, subst}
 use Rattle.hb_tree.specs.Tree.{Tree, TBinary}
 use Rattle.hb_draft.specs.Unfinished.{HasExprs, binary_over}
+use Rattle.hb_build.proofs.{StepLemmas.step-fails, StepLemmas.step-goes}
+use Rattle.hb_build.specs.{Acts.complete, Pile.Operand, Sound.work_of}
 use Rattle.hb_build.specs.declared.held.Held.{Held}
 use Rattle.hb_build.specs.declared.held.Held.TheVariants as held
-use Rattle.hb_build.specs.Acts.{complete}
-use Rattle.hb_build.specs.Pile.{Operand}
-use Rattle.hb_build.specs.Sound.{work_of}
 use Rattle.hb_build.proofs.NodeLemmas.{own-fault, put-answer, is-put, put-said, put-depth, within, is_over, IsPut}
-use Rattle.hb_build.proofs.StepLemmas.{step-fails, step-goes}
 use Rattle.hb_build.proofs.BinaryLemmas.{binary-top, binary-retop, binary-good, binary-high, binary-step}
+use Rattle.hb_build.proofs.RunLemmas.{tail}
 use Rattle.hb_build.proofs.builder.Builder.put_binary.Goals as goal
-
-tail : {X : Type 0} {x y : X} {xs ys : List X} → x ∷ xs ≡ y ∷ ys → xs ≡ ys
-tail e = cc
 
 pub drop_top-requires : goal.drop_top-requires
 drop_top-requires c =
@@ -38,41 +34,41 @@ pub returns-in_err-completes : goal.returns-in_err-completes
 returns-in_err-completes c =
     let t = binary-top c.args.self.now (λ e2 q e1 pile. complete q (λ id. TBinary id c.args.op e1 e2) Operand pile (work_of c.args.self.now)) c.requires.fits.1 in
     let u = binary-retop c.args.self.now t _ _ (ap (λ (x : List Held). held.Operand ∷ x)
-         ((sym (c.drop_top.ensures held.Operand (held.Own t.spot ∷ held.Operand ∷ t.rest) t.things_are) ∙ c.take_own-spot.ensures) ∙ ap (λ (x : List Held). held.Own c.take_own-spot.result ∷ x)
-         (sym (tail (sym (c.drop_top.ensures held.Operand (held.Own t.spot ∷ held.Operand ∷ t.rest) t.things_are) ∙ c.take_own-spot.ensures))
-         ∙ ap (λ (x : List Held). held.Operand ∷ x) (sym (c.drop_top-2.ensures held.Operand t.rest
-         (sym (tail (sym (c.drop_top.ensures held.Operand (held.Own t.spot ∷ held.Operand ∷ t.rest) t.things_are) ∙ c.take_own-spot.ensures)))))))) in
+    ((sym (c.drop_top.ensures held.Operand (held.Own t.spot ∷ held.Operand ∷ t.rest) t.things_are) ∙ c.take_own-spot.ensures) ∙ ap (λ (x : List Held). held.Own c.take_own-spot.result ∷ x)
+    (sym (tail (sym (c.drop_top.ensures held.Operand (held.Own t.spot ∷ held.Operand ∷ t.rest) t.things_are) ∙ c.take_own-spot.ensures))
+    ∙ ap (λ (x : List Held). held.Operand ∷ x) (sym (c.drop_top-2.ensures held.Operand t.rest
+    (sym (tail (sym (c.drop_top.ensures held.Operand (held.Own t.spot ∷ held.Operand ∷ t.rest) t.things_are) ∙ c.take_own-spot.ensures)))))))) in
     own-fault _ _ _ _ c.from_residual.ensures.1
     (step-fails c.args.self.now c.requires.fits.0 _ u.spot c.highest.result (work_of c.args.self.now) _ _
-        (binary-step c.args.self.now c.requires.fits.0 c.args.op u (work_of c.args.self.now) refl c.highest.result c.highest.ensures) c.in_err-completes.field-0.0 c.in_err-completes.ensures)
+    (binary-step c.args.self.now c.requires.fits.0 c.args.op u (work_of c.args.self.now) refl c.highest.result c.highest.ensures) c.in_err-completes.field-0.0 c.in_err-completes.ensures)
 
 pub binary-requires-clause-parts : goal.binary-requires-clause-parts
 binary-requires-clause-parts c =
     let t = binary-top c.args.self.now (λ e2 q e1 pile. complete q (λ id. TBinary id c.args.op e1 e2) Operand pile (work_of c.args.self.now)) c.requires.fits.1 in
     let u = binary-retop c.args.self.now t _ _ (ap (λ (x : List Held). held.Operand ∷ x)
-         ((sym (c.drop_top.ensures held.Operand (held.Own t.spot ∷ held.Operand ∷ t.rest) t.things_are) ∙ c.take_own-spot.ensures) ∙ ap (λ (x : List Held). held.Own c.take_own-spot.result ∷ x)
-         (sym (tail (sym (c.drop_top.ensures held.Operand (held.Own t.spot ∷ held.Operand ∷ t.rest) t.things_are) ∙ c.take_own-spot.ensures))
-         ∙ ap (λ (x : List Held). held.Operand ∷ x) (sym (c.drop_top-2.ensures held.Operand t.rest
-         (sym (tail (sym (c.drop_top.ensures held.Operand (held.Own t.spot ∷ held.Operand ∷ t.rest) t.things_are) ∙ c.take_own-spot.ensures)))))))) in
+    ((sym (c.drop_top.ensures held.Operand (held.Own t.spot ∷ held.Operand ∷ t.rest) t.things_are) ∙ c.take_own-spot.ensures) ∙ ap (λ (x : List Held). held.Own c.take_own-spot.result ∷ x)
+    (sym (tail (sym (c.drop_top.ensures held.Operand (held.Own t.spot ∷ held.Operand ∷ t.rest) t.things_are) ∙ c.take_own-spot.ensures))
+    ∙ ap (λ (x : List Held). held.Operand ∷ x) (sym (c.drop_top-2.ensures held.Operand t.rest
+    (sym (tail (sym (c.drop_top.ensures held.Operand (held.Own t.spot ∷ held.Operand ∷ t.rest) t.things_are) ∙ c.take_own-spot.ensures)))))))) in
     let limits = within (1 + c.highest.result) (length c.args.self.now.draft.table.nodes) (is_over c.args.self.now.scope) c.take_own-spot.result.at c.in_ok-completes.ensures in
     let low = limits.low in
     let high = binary-high c.args.self.now c.requires.fits.0 c.args.op u (work_of c.args.self.now) refl c.highest.result c.highest.ensures in
     let good = binary-good c.args.self.now c.requires.fits.0 c.args.op u (work_of c.args.self.now) refl c.highest.result c.highest.ensures in
     subst (λ (x : List Tree). HasExprs 2 x) (sym u.hand_is)
-        (record { enough = omega arith; exprs = (record { kind = good.0; low = omega (arith, low, high) }, (record { kind = good.1.0; low = omega (arith, low, high) }, tt)) })
+    (record { enough = omega arith; exprs = (record { kind = good.0; low = omega (arith, low, high) }, (record { kind = good.1.0; low = omega (arith, low, high) }, tt)) })
 
 pub returns : goal.returns
 returns c = put-answer _ _ c.put.result c.put.ensures.held c.put.ensures.rest c.put.ensures.memory (λ held_is rest.
     let t = binary-top c.args.self.now (λ e2 q e1 pile. complete q (λ id. TBinary id c.args.op e1 e2) Operand pile (work_of c.args.self.now)) c.requires.fits.1 in
     let u = binary-retop c.args.self.now t _ _ (ap (λ (x : List Held). held.Operand ∷ x)
-         ((sym (c.drop_top.ensures held.Operand (held.Own t.spot ∷ held.Operand ∷ t.rest) t.things_are) ∙ c.take_own-spot.ensures) ∙ ap (λ (x : List Held). held.Own c.take_own-spot.result ∷ x)
-         (sym (tail (sym (c.drop_top.ensures held.Operand (held.Own t.spot ∷ held.Operand ∷ t.rest) t.things_are) ∙ c.take_own-spot.ensures))
-         ∙ ap (λ (x : List Held). held.Operand ∷ x) (sym (c.drop_top-2.ensures held.Operand t.rest
-         (sym (tail (sym (c.drop_top.ensures held.Operand (held.Own t.spot ∷ held.Operand ∷ t.rest) t.things_are) ∙ c.take_own-spot.ensures)))))))) in
+    ((sym (c.drop_top.ensures held.Operand (held.Own t.spot ∷ held.Operand ∷ t.rest) t.things_are) ∙ c.take_own-spot.ensures) ∙ ap (λ (x : List Held). held.Own c.take_own-spot.result ∷ x)
+    (sym (tail (sym (c.drop_top.ensures held.Operand (held.Own t.spot ∷ held.Operand ∷ t.rest) t.things_are) ∙ c.take_own-spot.ensures))
+    ∙ ap (λ (x : List Held). held.Operand ∷ x) (sym (c.drop_top-2.ensures held.Operand t.rest
+    (sym (tail (sym (c.drop_top.ensures held.Operand (held.Own t.spot ∷ held.Operand ∷ t.rest) t.things_are) ∙ c.take_own-spot.ensures)))))))) in
     let made = c.in_ok-binary.ensures.made in
     let same = c.in_ok-binary.ensures.put.table.types in
     step-goes c.args.self.now c.requires.fits.0 _ u.spot c.highest.result (work_of c.args.self.now) _ _
-        (binary-step c.args.self.now c.requires.fits.0 c.args.op u (work_of c.args.self.now) refl c.highest.result c.highest.ensures) c.in_ok-completes.ensures c.put.new.self
+    (binary-step c.args.self.now c.requires.fits.0 c.args.op u (work_of c.args.self.now) refl c.highest.result c.highest.ensures) c.in_ok-completes.ensures c.put.new.self
     (subst (λ (x : List Tree). IsPut c.args.self.now c.put.new.self (held.Operand ∷ u.rest) (binary_over c.args.op (length (work_of c.args.self.now).said.places) x)) u.hand_is
     (is-put c.args.self.now c.put.new.self c.binary.new.self c.drop_top-2.new.held.items held.Operand _ rest held_is c.place.result (binary_over c.args.op) made same))
     c.place.result c.place.ensures

@@ -1,18 +1,13 @@
 use Rattle.std.proofs.Common.{◌≡◌, List, Bool, length, reverse, refl, sym, ap, ◌∙◌, arith, subst}
 use Rattle.std.proofs.lemmas.List.{length-reverse}
-use Rattle.hb_types.specs.declared.types.Ty.{Ty}
-use Rattle.hb_types.specs.declared.types.MethodTy.{MethodTy}
+use Rattle.hb_types.specs.declared.{types.Ty.Ty, types.MethodTy.MethodTy}
 use Rattle.hb_tree.specs.Program.{IsMethodTyIn}
 use Rattle.hb_draft.specs.Unfinished.{in_hand}
-use Rattle.hb_build.specs.declared.builder.Builder.{Builder}
-use Rattle.hb_build.specs.declared.held.Held.{Held}
-use Rattle.hb_build.specs.Answers.{Answers}
-use Rattle.hb_build.specs.Pile.{Slot, types_on, below_types}
+use Rattle.hb_build.proofs.{TakeLemmas.top-type, ParameterLemmas.few-types-on, PushLemmas.KeepsRest}
+use Rattle.hb_build.specs.declared.{builder.Builder.Builder, held.Held.Held}
+use Rattle.hb_build.specs.{Answers.Answers, Pile.Slot, Pile.types_on, Pile.below_types}
 use Rattle.hb_build.specs.Sound.{work_of, things_of, pile_of, parameter_types_of}
 use Rattle.hb_build.specs.Acts.{Work, Answer, with_type, declare, method_ty}
-use Rattle.hb_build.proofs.TakeLemmas.{top-type}
-use Rattle.hb_build.proofs.ParameterLemmas.{few-types-on}
-use Rattle.hb_build.proofs.PushLemmas.{KeepsRest}
 use Rattle.hb_build.proofs.SignatureLemmas.{IsSigned, signed, few-signed, method-signed, sound-signed, declare-there, named-there, computed-there}
 use Rattle.hb_build.proofs.builder.Builder.put_declare.Goals as goal
 

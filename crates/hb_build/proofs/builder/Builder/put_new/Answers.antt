@@ -1,10 +1,8 @@
 use Rattle.std.proofs.Common.{◌∷◌, ℕ, List, refl, reverse, ◌∙◌, ap}
 use Rattle.hb_tree.specs.Tree.{Tree, TNew}
 use Rattle.hb_draft.specs.Unfinished.{leaf_over, in_hand}
+use Rattle.hb_build.specs.{Acts.complete, Acts.with_class, Pile.Slot, Pile.Operand, Sound.work_of, Sound.things_of}
 use Rattle.hb_build.specs.declared.held.Held.TheVariants as held
-use Rattle.hb_build.specs.Acts.{complete, with_class}
-use Rattle.hb_build.specs.Pile.{Slot, Operand}
-use Rattle.hb_build.specs.Sound.{work_of, things_of}
 use Rattle.hb_build.proofs.TakeLemmas.{top-class}
 use Rattle.hb_build.proofs.NodeLemmas.{own-fault, put-answer, is-put, put-said, put-depth}
 use Rattle.hb_build.proofs.LeafLemmas.{IsLeaf, below-class, known-class, topped, leaf-fails, leaf-goes}

@@ -1,9 +1,8 @@
 use Rattle.std.proofs.Common.{refl, sym, ◌∙◌, ap}
 use Rattle.hb_tree.specs.Tree.{TNil}
 use Rattle.hb_draft.specs.Unfinished.{leaf_over}
+use Rattle.hb_build.specs.{Acts.Fails, Sound.work_of, Sound.things_of}
 use Rattle.hb_build.specs.declared.held.Held.TheVariants as held
-use Rattle.hb_build.specs.Acts.{Fails}
-use Rattle.hb_build.specs.Sound.{work_of, things_of}
 use Rattle.hb_build.proofs.NodeLemmas.{own-fault, put-answer, is-put, put-said, put-depth}
 use Rattle.hb_build.proofs.LeafLemmas.{IsLeaf, below-all, leaf-full, leaf-room, leaf-fails, leaf-goes}
 use Rattle.hb_build.proofs.builder.Builder.put_nil.Goals as goal

@@ -1,10 +1,8 @@
 use Rattle.std.proofs.Common.{rules, arith, length, ◌+◌, ◌∷◌, refl, ◌∙◌}
 use Rattle.hb_tree.specs.Tree.{TPrint}
 use Rattle.hb_draft.specs.Unfinished.{unary_over}
+use Rattle.hb_build.specs.{Acts.complete, Acts.closed, Pile.Operand, Sound.work_of}
 use Rattle.hb_build.specs.declared.held.Held.TheVariants as held
-use Rattle.hb_build.specs.Acts.{complete, closed}
-use Rattle.hb_build.specs.Pile.{Operand}
-use Rattle.hb_build.specs.Sound.{work_of}
 use Rattle.hb_build.proofs.NodeLemmas.{own-fault, put-answer, is-put, put-said, put-depth, within, is_over}
 use Rattle.hb_build.proofs.UnaryLemmas.{unary-top, retop, IsUnary, one-part, first-height, unary-fails, unary-goes, part}
 use Rattle.hb_build.proofs.builder.Builder.put_print.Goals as goal
@@ -33,7 +31,7 @@ returns-in_err-completes c =
     let u = retop c.args.self.now t _ _ _ (c.drop_top.ensures held.Operand (held.Own t.spot ∷ t.rest) t.things_are) c.take_own-spot.ensures in
     own-fault _ _ _ _ c.from_residual.ensures.1
     (unary-fails c.args.self.now c.requires.fits.0 TPrint is u (closed (work_of c.args.self.now)) refl c.height.result
-        (first-height _ _ _ _ u.hand_is c.height.ensures) c.in_err-completes.field-0.0 c.in_err-completes.ensures)
+    (first-height _ _ _ _ u.hand_is c.height.ensures) c.in_err-completes.field-0.0 c.in_err-completes.ensures)
 
 pub print-requires-clause-parts : goal.print-requires-clause-parts
 print-requires-clause-parts c =

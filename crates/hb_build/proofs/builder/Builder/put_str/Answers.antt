@@ -1,10 +1,8 @@
 use Rattle.std.proofs.Common.{rules, arith, length, ◌+◌, ◌∷◌, refl}
 use Rattle.hb_tree.specs.Tree.{TToStr}
 use Rattle.hb_draft.specs.Unfinished.{unary_over}
+use Rattle.hb_build.specs.{Acts.complete, Pile.Operand, Sound.work_of}
 use Rattle.hb_build.specs.declared.held.Held.TheVariants as held
-use Rattle.hb_build.specs.Acts.{complete}
-use Rattle.hb_build.specs.Pile.{Operand}
-use Rattle.hb_build.specs.Sound.{work_of}
 use Rattle.hb_build.proofs.NodeLemmas.{own-fault, put-answer, is-put, put-said, put-depth, within, is_over}
 use Rattle.hb_build.proofs.UnaryLemmas.{unary-top, retop, IsUnary, one-part, first-height, unary-fails, unary-goes, part}
 use Rattle.hb_build.proofs.builder.Builder.put_str.Goals as goal

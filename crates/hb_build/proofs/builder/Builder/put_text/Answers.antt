@@ -2,10 +2,8 @@ use Rattle.std.proofs.Common.{◌≡◌, ℕ, List, refl, sym, ◌∙◌, ap, su
 use Rattle.hb_lex.specs.Literal.{value_of_text}
 use Rattle.hb_tree.specs.Spelling.{IsText}
 use Rattle.hb_draft.specs.Made.{made_of, with_text}
-use Rattle.hb_build.specs.Acts.{Work, Fails}
-use Rattle.hb_build.specs.Sound.{work_of, things_of}
-use Rattle.hb_build.proofs.NodeLemmas.{own-fault, put-answer}
-use Rattle.hb_build.proofs.SpellingLemmas.{IsText-of_kind}
+use Rattle.hb_build.proofs.{NodeLemmas.own-fault, NodeLemmas.put-answer, SpellingLemmas.IsText-of_kind}
+use Rattle.hb_build.specs.{Acts.Work, Acts.Fails, Sound.work_of, Sound.things_of}
 use Rattle.hb_build.proofs.LeafLemmas.{IsLeaf, below-all, leaf-full, leaf-room, leaf-fails, leaf-goes, texted, text-leaf, text-put, text-said, text-depth}
 use Rattle.hb_build.proofs.builder.Builder.put_text.Goals as goal
 

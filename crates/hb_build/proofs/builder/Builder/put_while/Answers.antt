@@ -1,18 +1,14 @@
 use Rattle.std.proofs.Common.{arith, length, ◌+◌, ◌≤◌, ◌≡◌, ◌∷◌, List, refl, ◌∙◌, sym, ap, subst}
 use Rattle.hb_tree.specs.Tree.{Tree, TWhile}
 use Rattle.hb_draft.specs.Unfinished.{HasTurn, while_over}
+use Rattle.hb_build.proofs.{StepLemmas.step-fails, StepLemmas.step-goes}
+use Rattle.hb_build.specs.{Acts.complete, Acts.closed, Pile.Operand, Sound.work_of}
 use Rattle.hb_build.specs.declared.held.Held.{Held}
 use Rattle.hb_build.specs.declared.held.Held.TheVariants as held
-use Rattle.hb_build.specs.Acts.{complete, closed}
-use Rattle.hb_build.specs.Pile.{Operand}
-use Rattle.hb_build.specs.Sound.{work_of}
 use Rattle.hb_build.proofs.NodeLemmas.{own-fault, put-answer, is-put, put-said, put-depth, within, is_over, IsPut}
-use Rattle.hb_build.proofs.StepLemmas.{step-fails, step-goes}
 use Rattle.hb_build.proofs.WhileLemmas.{while-top, while-retop, while-good, while-high, while-step}
+use Rattle.hb_build.proofs.RunLemmas.{tail}
 use Rattle.hb_build.proofs.builder.Builder.put_while.Goals as goal
-
-tail : {X : Type 0} {x y : X} {xs ys : List X} → x ∷ xs ≡ y ∷ ys → xs ≡ ys
-tail e = cc
 
 pub drop_top-requires : goal.drop_top-requires
 drop_top-requires c =
@@ -38,16 +34,16 @@ pub returns-in_err-completes : goal.returns-in_err-completes
 returns-in_err-completes c =
     let t = while-top c.args.self.now (λ block cond q pile. complete q (λ id. TWhile id cond block) Operand pile (closed (work_of c.args.self.now))) c.requires.fits.1 in
     let u = while-retop c.args.self.now t _ _ (ap (λ (x : List Held). held.Closed ∷ held.Operand ∷ x)
-         (sym (c.drop_top-2.ensures held.Operand (held.Own t.spot ∷ t.rest) (c.drop_top.ensures held.Closed (held.Operand ∷ held.Own t.spot ∷ t.rest) t.things_are)) ∙ c.take_own-spot.ensures)) in
+    (sym (c.drop_top-2.ensures held.Operand (held.Own t.spot ∷ t.rest) (c.drop_top.ensures held.Closed (held.Operand ∷ held.Own t.spot ∷ t.rest) t.things_are)) ∙ c.take_own-spot.ensures)) in
     own-fault _ _ _ _ c.from_residual.ensures.1
     (step-fails c.args.self.now c.requires.fits.0 _ u.spot c.highest.result (closed (work_of c.args.self.now)) _ _
-        (while-step c.args.self.now c.requires.fits.0 u (closed (work_of c.args.self.now)) refl c.highest.result c.highest.ensures) c.in_err-completes.field-0.0 c.in_err-completes.ensures)
+    (while-step c.args.self.now c.requires.fits.0 u (closed (work_of c.args.self.now)) refl c.highest.result c.highest.ensures) c.in_err-completes.field-0.0 c.in_err-completes.ensures)
 
 pub while_loop-requires-clause-parts : goal.while_loop-requires-clause-parts
 while_loop-requires-clause-parts c =
     let t = while-top c.args.self.now (λ block cond q pile. complete q (λ id. TWhile id cond block) Operand pile (closed (work_of c.args.self.now))) c.requires.fits.1 in
     let u = while-retop c.args.self.now t _ _ (ap (λ (x : List Held). held.Closed ∷ held.Operand ∷ x)
-         (sym (c.drop_top-2.ensures held.Operand (held.Own t.spot ∷ t.rest) (c.drop_top.ensures held.Closed (held.Operand ∷ held.Own t.spot ∷ t.rest) t.things_are)) ∙ c.take_own-spot.ensures)) in
+    (sym (c.drop_top-2.ensures held.Operand (held.Own t.spot ∷ t.rest) (c.drop_top.ensures held.Closed (held.Operand ∷ held.Own t.spot ∷ t.rest) t.things_are)) ∙ c.take_own-spot.ensures)) in
     let limits = within (1 + c.highest.result) (length c.args.self.now.draft.table.nodes) (is_over c.args.self.now.scope) c.take_own-spot.result.at c.in_ok-completes.ensures in
     let low = limits.low in
     let high = while-high c.args.self.now c.requires.fits.0 u (closed (work_of c.args.self.now)) refl c.highest.result c.highest.ensures in
@@ -58,11 +54,11 @@ pub returns : goal.returns
 returns c = put-answer _ _ c.put.result c.put.ensures.held c.put.ensures.rest c.put.ensures.memory (λ held_is rest.
     let t = while-top c.args.self.now (λ block cond q pile. complete q (λ id. TWhile id cond block) Operand pile (closed (work_of c.args.self.now))) c.requires.fits.1 in
     let u = while-retop c.args.self.now t _ _ (ap (λ (x : List Held). held.Closed ∷ held.Operand ∷ x)
-         (sym (c.drop_top-2.ensures held.Operand (held.Own t.spot ∷ t.rest) (c.drop_top.ensures held.Closed (held.Operand ∷ held.Own t.spot ∷ t.rest) t.things_are)) ∙ c.take_own-spot.ensures)) in
+    (sym (c.drop_top-2.ensures held.Operand (held.Own t.spot ∷ t.rest) (c.drop_top.ensures held.Closed (held.Operand ∷ held.Own t.spot ∷ t.rest) t.things_are)) ∙ c.take_own-spot.ensures)) in
     let made = c.in_ok-while_loop.ensures.made in
     let same = c.in_ok-while_loop.ensures.put.table.types in
     step-goes c.args.self.now c.requires.fits.0 _ u.spot c.highest.result (closed (work_of c.args.self.now)) _ _
-        (while-step c.args.self.now c.requires.fits.0 u (closed (work_of c.args.self.now)) refl c.highest.result c.highest.ensures) c.in_ok-completes.ensures c.put.new.self
+    (while-step c.args.self.now c.requires.fits.0 u (closed (work_of c.args.self.now)) refl c.highest.result c.highest.ensures) c.in_ok-completes.ensures c.put.new.self
     (subst (λ (x : List Tree). IsPut c.args.self.now c.put.new.self (held.Operand ∷ u.rest) (while_over (length (work_of c.args.self.now).said.places) x)) u.hand_is
     (is-put c.args.self.now c.put.new.self c.while_loop.new.self c.take_own-spot.new.held.items held.Operand _ rest held_is c.place.result (while_over) made same))
     c.place.result c.place.ensures

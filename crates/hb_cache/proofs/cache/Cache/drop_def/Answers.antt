@@ -1,6 +1,5 @@
 use Rattle.std.proofs.Common.{◌==◌, if◌then◌else◌, None, sym, ◌∙◌, ap, length, subst}
-use Rattle.hb_cache.specs.Kept.{kept_at}
-use Rattle.hb_cache.specs.Held.{IsCache}
+use Rattle.hb_cache.specs.{Kept.kept_at, Held.IsCache}
 use Rattle.hb_cache.proofs.CacheLemmas.{cache-without, whole}
 use Rattle.hb_cache.proofs.cache.Cache.drop_def.Goals as goal
 

@@ -1,6 +1,5 @@
 use Rattle.std.proofs.Common.{◌≡◌, ◌++◌, ℕ, take, drop, sym, ◌∙◌, ap, subst, length, set}
-use Rattle.hb_cache.specs.Kept.{kept_at, not_using}
-use Rattle.hb_cache.specs.Held.{IsCache}
+use Rattle.hb_cache.specs.{Kept.kept_at, Kept.not_using, Held.IsCache}
 use Rattle.hb_cache.proofs.CacheLemmas.{cache-unused, cache-unused_yet, same-dropped, whole}
 use Rattle.hb_cache.proofs.cache.Cache.drop_type.Goals as goal
 use Rattle.hb_cache.proofs.cache.Cache.drop_type.Goals.{in-Some, in_default}

@@ -1,7 +1,6 @@
 use Rattle.std.proofs.Common.{subst, sym}
+use Rattle.hb_cache.proofs.{HeldLemmas.either_way, CacheLemmas.cache-wider, CacheLemmas.cache-with}
 use Rattle.hb_cache.specs.Held.{IsCache}
-use Rattle.hb_cache.proofs.HeldLemmas.{either_way}
-use Rattle.hb_cache.proofs.CacheLemmas.{cache-wider, cache-with}
 use Rattle.hb_cache.proofs.cache.Cache.put.Goals as goal
 
 pub invariant_of-self : goal.invariant_of-self

@@ -1,7 +1,6 @@
 use Rattle.std.proofs.Common.{◌==◌, ◌∙◌, Some, if◌then◌else◌, rules, tests, ap}
 use Rattle.std.specs.Prelude.{is_some}
-use Rattle.std.proofs.lemmas.Iterator.{YieldsList-from_slice}
-use Rattle.std.proofs.lemmas.Iterator.Search.{any_from_yields_List}
+use Rattle.std.proofs.{lemmas.Iterator.YieldsList-from_slice, lemmas.Iterator.Search.any_from_yields_List}
 use Rattle.hb_cache.specs.declared.kept.Seen.{Seen}
 use Rattle.hb_cache.specs.Kept.{count_in}
 use Rattle.hb_cache.proofs.KeptLemmas.{counted}

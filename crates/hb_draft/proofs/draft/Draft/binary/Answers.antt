@@ -1,7 +1,6 @@
 use Rattle.std.proofs.{Common.arith, lemmas.Result.on_ok_weaker}
-use Rattle.hb_draft.proofs.Steps.{enough_nodes, binary_can, binary_puts}
+use Rattle.hb_draft.proofs.{Steps.enough_nodes, Steps.binary_can, Steps.binary_puts, MadeLemmas.node-made}
 use Rattle.hb_draft.specs.Unfinished.{binary_over}
-use Rattle.hb_draft.proofs.MadeLemmas.{node-made}
 use Rattle.hb_draft.proofs.draft.Draft.binary.Goals as goal
 
 pub on_top-a-requires : goal.on_top-a-requires

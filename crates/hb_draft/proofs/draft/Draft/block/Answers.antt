@@ -8,8 +8,13 @@ pub last_of-requires : goal.last_of-requires
 last_of-requires c = rw c.deref.ensures.value (block_enough _ _ c.self.view_is _ c.self.invariant c.args.count c.args.place c.requires.room c.requires.parts)
 
 pub overflow_cast-node-2 : goal.overflow_cast-node-2
-overflow_cast-node-2 c = omega (arith, c.self.invariant.draft.few_items, c.self.invariant.draft.program.limits.nodes, block_enough _ _ c.self.view_is _ c.self.invariant c.args.count c.args.place
-    c.requires.room c.requires.parts)
+overflow_cast-node-2 c = omega (
+  arith,
+  c.self.invariant.draft.few_items,
+  c.self.invariant.draft.program.limits.nodes,
+  block_enough _ _ c.self.view_is _ c.self.invariant c.args.count c.args.place
+      c.requires.room c.requires.parts,
+)
 
 pub push_node-requires-clause-count : goal.push_node-requires-clause-count
 push_node-requires-clause-count c = block_enough _ _ c.self.view_is _ c.self.invariant c.args.count c.args.place c.requires.room c.requires.parts

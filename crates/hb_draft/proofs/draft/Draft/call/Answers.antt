@@ -1,8 +1,7 @@
 use Rattle.std.proofs.Common.{◌+◌, ◌∙◌, ap, arith}
 use Rattle.std.proofs.lemmas.Result.{on_ok_weaker}
 use Rattle.hb_draft.specs.{Put.last_nodes, Unfinished.Unfinished, Unfinished.call_over}
-use Rattle.hb_draft.proofs.Steps.{enough_nodes, call_can, call_puts}
-use Rattle.hb_draft.proofs.MadeLemmas.{node-made}
+use Rattle.hb_draft.proofs.{Steps.enough_nodes, Steps.call_can, Steps.call_puts, MadeLemmas.node-made}
 use Rattle.hb_draft.proofs.draft.Draft.call.Goals as goal
 
 pub on_top-receiver-requires : goal.on_top-receiver-requires

@@ -1,7 +1,6 @@
 use Rattle.std.proofs.{Common.arith, lemmas.Result.on_ok_weaker}
-use Rattle.hb_draft.proofs.Steps.{three_nodes, if_can, if_puts}
+use Rattle.hb_draft.proofs.{Steps.three_nodes, Steps.if_can, Steps.if_puts, MadeLemmas.node-made}
 use Rattle.hb_draft.specs.Unfinished.{if_over}
-use Rattle.hb_draft.proofs.MadeLemmas.{node-made}
 use Rattle.hb_draft.proofs.draft.Draft.if_else.Goals as goal
 
 pub on_top-condition-requires : goal.on_top-condition-requires

@@ -5,8 +5,18 @@ use Rattle.hb_draft.proofs.draft.Draft.new.Goals as goal
 
 pub invariant_of-result : goal.invariant_of-result
 invariant_of-result c =
-    rw (c.new.ensures, c.new-2.ensures, c.new-3.ensures, c.new-4.ensures.items, c.new-5.ensures.items, c.new-6.ensures.items, c.new-7.ensures.items, c.new-8.ensures.items, c.new-9.ensures.items,
-        c.new-10.ensures.items) (record { draft = nothing_draft; same = refl })
+    rw (
+      c.new.ensures,
+      c.new-2.ensures,
+      c.new-3.ensures,
+      c.new-4.ensures.items,
+      c.new-5.ensures.items,
+      c.new-6.ensures.items,
+      c.new-7.ensures.items,
+      c.new-8.ensures.items,
+      c.new-9.ensures.items,
+      c.new-10.ensures.items,
+    ) (record { draft = nothing_draft; same = refl })
 
 pub returns-clause-hand : goal.returns-clause-hand
 unfolding in_hand

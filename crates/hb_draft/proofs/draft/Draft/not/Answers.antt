@@ -1,9 +1,8 @@
 use Rattle.std.proofs.{Common.arith, Common.refl, lemmas.Result.on_ok_weaker}
 use Rattle.hb_tree.specs.declared.node.Node.TheVariants as node
 use Rattle.hb_tree.specs.Tree.{TNot}
-use Rattle.hb_draft.proofs.Steps.{enough_nodes, unary_can, unary_puts}
+use Rattle.hb_draft.proofs.{Steps.enough_nodes, Steps.unary_can, Steps.unary_puts, MadeLemmas.node-made}
 use Rattle.hb_draft.specs.Unfinished.{unary_over}
-use Rattle.hb_draft.proofs.MadeLemmas.{node-made}
 use Rattle.hb_draft.proofs.draft.Draft.not.Goals as goal
 
 pub on_top-e-requires : goal.on_top-e-requires

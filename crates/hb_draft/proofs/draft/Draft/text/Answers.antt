@@ -19,8 +19,15 @@ returns-in-Ok-clause-put c =
 
 pub invariant_of-self-in-Err : goal.invariant_of-self-in-Err
 invariant_of-self-in-Err c =
-    rw (c.truncate.ensures, c.in_ok-i.ensures.words, c.len-count.ensures.len, with_word-front c.self.inside.texts c.args.value.now, c.in-Err.ensures.nodes_err, c.in-Err.ensures.hand_err,
-        c.in-Err.ensures.heights_err) c.self.invariant
+    rw (
+      c.truncate.ensures,
+      c.in_ok-i.ensures.words,
+      c.len-count.ensures.len,
+      with_word-front c.self.inside.texts c.args.value.now,
+      c.in-Err.ensures.nodes_err,
+      c.in-Err.ensures.hand_err,
+      c.in-Err.ensures.heights_err,
+    ) c.self.invariant
 
 pub returns-in-Ok-clause-made : goal.returns-in-Ok-clause-made
 returns-in-Ok-clause-made c =

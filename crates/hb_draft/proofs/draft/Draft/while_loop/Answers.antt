@@ -1,7 +1,6 @@
 use Rattle.std.proofs.{Common.arith, lemmas.Result.on_ok_weaker}
-use Rattle.hb_draft.proofs.Steps.{two_nodes, while_can, while_puts}
+use Rattle.hb_draft.proofs.{Steps.two_nodes, Steps.while_can, Steps.while_puts, MadeLemmas.node-made}
 use Rattle.hb_draft.specs.Unfinished.{while_over}
-use Rattle.hb_draft.proofs.MadeLemmas.{node-made}
 use Rattle.hb_draft.proofs.draft.Draft.while_loop.Goals as goal
 
 pub on_top-condition-requires : goal.on_top-condition-requires

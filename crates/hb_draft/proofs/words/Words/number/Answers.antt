@@ -18,7 +18,7 @@ returns-in-Some-clause-place c =
 pub returns-in_ok-i-in-None-clause-words : goal.returns-in_ok-i-in-None-clause-words
 returns-in_ok-i-in-None-clause-words c =
     word-inserted c.self.inside.set.keys (λ v. v.items) c.args.self.now c.self.view_is c.args.word.now c.in_ok-copy-in-None.copy c.in_ok-copy-in-None.ensures.items c.insert_full.new.self.keys
-        c.in_ok-i-in-None.ensures.keys
+    c.in_ok-i-in-None.ensures.keys
 
 pub returns-in_ok-i-in-None-clause-number : goal.returns-in_ok-i-in-None-clause-number
 returns-in_ok-i-in-None-clause-number c =
@@ -27,6 +27,6 @@ returns-in_ok-i-in-None-clause-number c =
 pub returns-in_ok-i-in-None-clause-place : goal.returns-in_ok-i-in-None-clause-place
 returns-in_ok-i-in-None-clause-place c =
     let words = word-inserted c.self.inside.set.keys (λ v. v.items) c.args.self.now c.self.view_is c.args.word.now c.in_ok-copy-in-None.copy c.in_ok-copy-in-None.ensures.items
-         c.insert_full.new.self.keys c.in_ok-i-in-None.ensures.keys in
+    c.insert_full.new.self.keys c.in_ok-i-in-None.ensures.keys in
     let at = rw c.in_ok-copy-in-None.ensures.items at c.in_ok-i-in-None.ensures.index ∙ word-number c.self.inside.set.keys (λ v. v.items) c.args.self.now c.self.view_is c.args.word.now in
     rw (words, at) (with_word-place c.args.self.now c.args.word.now)

@@ -1,6 +1,5 @@
 use Rattle.std.proofs.Common.{◌≡◌, refl, subst, sym, ap, ◌∙◌, Some, None, map, ◌++◌, ◌∷◌, []}
-use Rattle.hb_names.specs.Names.{Differ, place}
-use Rattle.hb_names.specs.Stored.{name_of}
+use Rattle.hb_names.specs.{Names.Differ, Names.place, Stored.name_of}
 use Rattle.hb_names.proofs.NameLemmas.{with_name-known, with_name-new, place-last}
 use Rattle.hb_names.proofs.KeyLemmas.{differ, found, added, counted, index-new}
 use Rattle.hb_names.proofs.list.NameList.find_or_add.Goals as goal

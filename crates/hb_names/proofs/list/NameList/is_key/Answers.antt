@@ -1,8 +1,7 @@
 use Rattle.std.proofs.Common.{length, refl, sym, ap, ◌∙◌, subst}
 use Rattle.std.specs.Prelude.{slice_get}
 use Rattle.std.proofs.lemmas.Option.{slice_get_read}
-use Rattle.hb_names.specs.Names.{Differ}
-use Rattle.hb_names.specs.Stored.{name_of}
+use Rattle.hb_names.specs.{Names.Differ, Stored.name_of}
 use Rattle.hb_names.proofs.KeyLemmas.{differ, stands, none-past}
 use Rattle.hb_names.proofs.list.NameList.is_key.Goals as goal
 

@@ -1,6 +1,5 @@
 use Rattle.std.proofs.Common.{subst}
-use Rattle.hb_names.specs.Names.{Differ}
-use Rattle.hb_names.specs.Stored.{name_of}
+use Rattle.hb_names.specs.{Names.Differ, Stored.name_of}
 use Rattle.hb_names.proofs.KeyLemmas.{differ}
 use Rattle.hb_names.proofs.list.NameList.len.Goals as goal
 

@@ -2,12 +2,11 @@
 
 ghost use Rattle.std.specs.Prelude.{◌<◌, length};
 
-use super::*;
-use hb_build::faults::Limit;
-use hb_grammar::Wanted;
 use hb_lex::lex;
+use hb_parse::{Limit, ParseFail, Wanted, parse};
 use hb_tree::node::Node;
 use hb_tree::print::print_program;
+use hb_tree::program::Program;
 use hb_types::ids::{BodySite, ClassId, NameId, NodeId, TypeSite};
 use hb_types::types::Ty;
 use std::test::Fail;
