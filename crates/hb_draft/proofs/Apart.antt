@@ -1,21 +1,16 @@
 -- Numbers that stand in one list at most once stay so where they are moved, or where some are dropped.
-use Rattle.std.proofs.Common.{◌≡◌, ℕ, ◌<◌, ◌≤◌, ◌+◌, List, [], ◌∷◌, ◌++◌, map, length, refl, Some, None, Option, IfSome, arith, inl, inr, false, subst}
+use Rattle.std.proofs.Common.{◌≡◌, ℕ, ◌≤◌, ◌+◌, List, [], ◌∷◌, ◌++◌, refl, arith, inl, inr, false, subst}
 use Rattle.std.specs.Prelude.{nat_eq}
 use Rattle.std.specs.List.{AllByRecursion, IsDistinct}
 use Rattle.std.proofs.lemmas.Bool.{eq-eqb}
 use Rattle.std.proofs.lemmas.Bool.Decides.{eqb_tells}
-use Rattle.hb_types.specs.declared.ids.NodeId.{NodeId}
-use Rattle.hb_types.specs.declared.ids.NameId.{NameId}
-use Rattle.hb_tree.specs.Table.{Table}
-use Rattle.hb_tree.specs.Grows.{IsFounded}
 use Rattle.hb_tree.specs.Nodes.{numbers_of}
-use Rattle.hb_tree.specs.Program.{IsProgram, IsRootIn, IsScriptIn, all_parts}
-use Rattle.hb_tree.specs.Roots.{IsReachedOnce, roots, setup_root}
+use Rattle.hb_tree.specs.Program.{all_parts}
+use Rattle.hb_tree.specs.Roots.{IsReachedOnce, roots}
 use Rattle.hb_tree.proofs.Reached.{same, times, total-append, once_of_distinct}
-use Rattle.hb_tree.proofs.Trees.{block_seen}
 use Rattle.hb_draft.specs.Kept.{IsKept}
 use Rattle.hb_draft.specs.Unfinished.{Unfinished}
-use Rattle.hb_draft.proofs.Lists.{each-append, IsDistinct-front}
+use Rattle.hb_draft.proofs.Lists.{IsDistinct-front}
 
 same-itself : (x : ℕ) → same x x ≡ 1
 same-itself x = rw (eq-eqb x x refl) refl
@@ -49,20 +44,6 @@ apart-setup all old scripts kept rest b = distinct_fewer _ _ (λ j. simp total-a
 -- the last one in hand is the root of one script more
 pub apart-script : (all old scripts kept rest : List ℕ) (b : ℕ) → IsDistinct nat_eq ((all ++ (old ++ scripts)) ++ (kept ++ b ∷ rest)) → IsDistinct nat_eq ((all ++ (old ++ (scripts ++ b ∷ []))) ++ kept)
 apart-script all old scripts kept rest b = distinct_fewer _ _ (λ j. simp total-append (omega arith))
-
--- the roots are nodes of the table
-module _ (t : Table) (founded : IsFounded t) where
-  setup-within : (o : Option NodeId) → IfSome o (IsRootIn t) → AllByRecursion (λ j. j < length t.nodes) (setup_root o)
-  setup-within None h = tt
-  setup-within (Some b) h = ((block_seen t founded b.0 h.block).0, tt)
-
-  scripts-within : (ss : List (NameId × NodeId)) → AllByRecursion (IsScriptIn t) ss → AllByRecursion (λ j. j < length t.nodes) (map (λ s. s.1.0) ss)
-  scripts-within [] h = tt
-  scripts-within (s ∷ ss) h = ((block_seen t founded s.1.0 h.0.root.block).0, scripts-within ss h.1)
-
-  pub roots-within : IsProgram t → AllByRecursion (λ j. j < length t.nodes) (roots t)
-  roots-within program =
-      each-append (λ j. j < length t.nodes) (setup_root t.setup) (map (λ s. s.1.0) t.scripts) (setup-within t.setup program.setup) (scripts-within t.scripts program.scripts)
 
 -- what a draft keeps, whatever the draft is called
 pub kept-once : (s d : Unfinished) → s ≡ d → (hs : List ℕ) → IsKept s.table s.nodes hs → IsReachedOnce d.table

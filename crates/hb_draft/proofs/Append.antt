@@ -20,13 +20,14 @@ use Rattle.hb_tree.specs.Program.{IsProgram, HasParts, IsExprNode, IsBlockNode, 
 use Rattle.hb_tree.specs.Roots.{roots}
 use Rattle.hb_tree.specs.Grows.{Grows, BeginsWith, IsFounded}
 use Rattle.hb_tree.specs.Spelling.{IsText}
+use Rattle.hb_tree.proofs.CanonLemmas.{roots_within}
 use Rattle.hb_tree.proofs.Lists.{each_weaker}
 use Rattle.hb_tree.proofs.Trees.{tree_at_node, tree_alike, parts_weaker, block_seen}
 use Rattle.hb_tree.proofs.Growth.{parts-kept, expr_node-kept, block_node-kept, node-kept, body-kept, type-kept, root-kept, script-kept, tree_at-grown, all_parts-grown}
 use Rattle.hb_draft.specs.Kept.{IsDraft, IsKept, greatest, heights_of, heights_after}
 use Rattle.hb_draft.specs.Put.{IsOver, last_nodes}
 use Rattle.hb_draft.specs.Unfinished.{IsExprPart, IsBlockPart, KeepsRoots, trees_of}
-use Rattle.hb_draft.proofs.Apart.{apart-taken, roots-within}
+use Rattle.hb_draft.proofs.Apart.{apart-taken}
 use Rattle.hb_draft.proofs.Lists.{each-append, each_both, each-front, each-back, slice_get-append, slice_get-last, slice_get-single, IsDistinct-front, IsDistinct-next}
 use Rattle.hb_draft.proofs.Heights.{height-parts, heights_of-numbers}
 use Rattle.hb_draft.proofs.Parts.{all_parts-within, height-node, expr_node-at, block_node-at}
@@ -236,7 +237,7 @@ module _ (t : Table) (ids : List NodeId) (ts : List (List ℕ)) (texts : AreText
         each-append (λ j. j < id) ((all_parts t ++ numbers_of taken) ++ roots t) (numbers_of kept)
         (each-append (λ j. j < id) (all_parts t ++ numbers_of taken) (roots t)
         (each-append (λ j. j < id) (all_parts t) (numbers_of taken) (all_parts-within t old_founded) (each-back (λ j. j < id) (numbers_of kept) (numbers_of taken) in_hand))
-        (roots-within t old_founded draft.program))
+        (roots_within t draft.program))
         kept_within
 
     apart-next : IsDistinct nat_eq ((nodes-next ++ numbers_of kept) ++ id ∷ []) → IsDistinct nat_eq ((all_parts u ++ roots u) ++ (numbers_of kept ++ id ∷ []))

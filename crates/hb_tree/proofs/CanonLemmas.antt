@@ -179,7 +179,7 @@ module _ (t : Table) (ok : IsProgram t) where
           omega arith
 
   -- the roots are nodes
-  roots_within : AllByRecursion (λ j. j < length t.nodes) (roots t)
+  pub roots_within : AllByRecursion (λ j. j < length t.nodes) (roots t)
   roots_within = each_append (λ j. j < length t.nodes) (setup_root t.setup) (map (λ s. s.1.0) t.scripts) (of_setup t.setup ok.setup) (of_scripts t.scripts ok.scripts)
     where
       is_node : (id : ℕ) → IsBlockNode (node_at t id) → id < length t.nodes

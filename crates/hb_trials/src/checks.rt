@@ -26,6 +26,8 @@ fn checked(
     let mut table = Declarations::of(alloc, prog, count)?;
     assert!(rt; (body as usize) < prog.bodies());
     assert!(rt; (declared as usize) < prog.types());
+    // Its count tells that it is a program, whose names a table takes.
+    let _nodes = prog.nodes();
     let found = check(
         alloc,
         prog,
