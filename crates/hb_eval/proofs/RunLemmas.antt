@@ -1,6 +1,7 @@
 -- A machine and the run of its block.
-use Rattle.std.proofs.Common.{Option, ◌≡◌, ℕ, ◌+◌, ◌≤◌, List, [], ◌∷◌, ◌++◌, length, map, Some, None, Bool, cond, refl, sym, ap, ◌∙◌, arith, append_assoc, append-nil, Vec, Global}
-use Rattle.std.specs.Prelude.{reverse, count_by}
+use Rattle.std.proofs.Common.{Option, ◌≡◌, ℕ, ◌+◌, ◌≤◌, List, [], ◌∷◌, ◌++◌, length, map, Some, None, Bool, cond, refl, sym, ap, ◌∙◌, subst, arith, append_assoc, append-nil, Vec, Global}
+use Rattle.std.specs.Prelude.{reverse, count_by, is_some}
+use Rattle.std.specs.Option.{option_map}
 use Rattle.std.proofs.lemmas.List.Sums.{sum_by-append, sum_by-cons}
 use Rattle.std.proofs.lemmas.List.{map-append}
 use mathlib.Core.List.{IsPrefix}
@@ -31,10 +32,11 @@ use Rattle.hb_eval.specs.State.{Bindings, St, Answer, tagged, then_do}
 use Rattle.hb_eval.specs.Meaning.{Calls, ev, ev_items}
 use Rattle.hb_eval.specs.Calls.{call_in}
 use Rattle.hb_eval.specs.Runs.{Run, run_of, start, is_call, is_entered}
+use Rattle.hb_eval.specs.Noting.{IsJournal, journal_of}
 use Rattle.hb_eval.specs.Told.{told}
 use Rattle.hb_eval.specs.Machine.{trees_from, items_in}
 use Rattle.hb_eval.specs.Turns.{Tallies, Reads, stands_at}
-use Rattle.hb_eval.specs.Machines.{Counts, Finishes, HasEnded, IsLast, StandsFor, of_machine, outcome_of}
+use Rattle.hb_eval.specs.Machines.{Counts, Finishes, HasEnded, IsLast, NotesOn, StandsFor, of_machine, outcome_of}
 use Rattle.hb_eval.proofs.AdvanceLemmas.{last_none}
 use Rattle.hb_eval.proofs.TurnLemmas.{prefix_on}
 
@@ -58,10 +60,10 @@ counts_on old new n done more h g = record {
 }
 
 -- a machine that stands for a run goes on to one that stands for it
-pub stands_on : (t : Table) (known longer : List Name) (c : ℕ) (past now : List Entry) (old new : Machine) → IsPrefix known longer → Reads longer c past now old.state new.state (of_machine t old) (of_machine t new)
+pub stands_on : (t : Table) (known longer : List Name) (c : ℕ) (past now : List Entry) (old new : Machine) → IsPrefix known longer → Reads longer c past now old.state new.state (of_machine t old) (of_machine t new) → NotesOn c past now old new
     → (block steps : ℕ) (done : List (ℕ × Act)) → StandsFor t known block steps done old
     → (more : List Act) × (acts c now ≡ acts c past ++ more) × StandsFor t longer block steps (done ++ tagged new.state.begun more) new
-stands_on t known longer c past now old new named r block steps done s =
+stands_on t known longer c past now old new named r notes block steps done s =
     let more = r.more in
     let behind = tagged new.state.begun more in
     let first : ℕ × Act → Act = λ e. e.1 in (
@@ -75,6 +77,7 @@ stands_on t known longer c past now old new named r block steps done s =
             ∙ s.same names (prefix_on known longer names named p) few (more ++ journal)
             ∙ r.same names p few [] done journal;
         counts = counts_on old.state new.state new.state.begun done more s.counts r.tallies;
+        journal = subst (IsJournal new.caller new.journal) (sym (map-append first done behind ∙ ap (λ l. map first done ++ l) (tagged_map new.state.begun more))) (notes more (map first done) r.grows s.journal);
       },
     )
 
@@ -94,10 +97,10 @@ new_answer t names block e cache steps ops vars out journal no_vars no_out =
     let after : Bindings → List ℕ → Answer = λ vs printed. ev_items t names (call_in t names 4096) (trees_from 0 (items_in (tree_at t block.0))) value.Nil (record { vars = vs; self = None; fuel = steps; begun = 0; next = 1; output = printed; read = []; journal = journal }) in
     ap (λ (vs : Bindings). after vs out.items) no_vars ∙ ap (λ (l : List ℕ). after [] l) no_out
 
-pub new_stands : (t : Table) (known : List Name) (block : NodeId) (caller : CallerId) (e : Stop) (cache : List (Option Kept)) (steps : ℕ) (ops : Vec Value Global) (vars : Vec (NameId × Value) Global) (out : Vec ℕ Global) (conts : Vec Cont Global) (frames : Vec Framed Global)
-    → vars.items ≡ [] → out.items ≡ [] → conts.items ≡ cont.Items block 0 ∷ [] → frames.items ≡ [] → IsBlockAt t block.0
-    → StandsFor t known block.0 steps [] (record { caller = caller; state = record { operands = ops; vars = vars; output = out; acc = value.Nil; at = block; stop = e; base = 0; class = None; fuel = steps; begun = 0; made = 0; decided = 0; own = 0; fresh = 0; cache = cache }; conts = conts; frames = frames; hand = hands.Gives })
-new_stands t known block caller e cache steps ops vars out conts frames no_vars no_out one no_frames is = record {
+pub new_stands : (t : Table) (known : List Name) (block : NodeId) (caller : CallerId) (e : Stop) (cache : List (Option Kept)) (steps : ℕ) (ops : Vec Value Global) (vars : Vec (NameId × Value) Global) (out : Vec ℕ Global) (conts : Vec Cont Global) (frames : Vec Framed Global) (kept : Option (Vec Entry Global))
+    → vars.items ≡ [] → out.items ≡ [] → conts.items ≡ cont.Items block 0 ∷ [] → frames.items ≡ [] → IsJournal caller kept [] → IsBlockAt t block.0
+    → StandsFor t known block.0 steps [] (record { caller = caller; state = record { operands = ops; vars = vars; output = out; acc = value.Nil; at = block; stop = e; base = 0; class = None; fuel = steps; begun = 0; made = 0; decided = 0; own = 0; fresh = 0; cache = cache }; conts = conts; frames = frames; hand = hands.Gives; journal = kept })
+new_stands t known block caller e cache steps ops vars out conts frames kept no_vars no_out one no_frames none is = record {
   same = λ names p few journal.
       let x : State = record { operands = ops; vars = vars; output = out; acc = value.Nil; at = block; stop = e; base = 0; class = None; fuel = steps; begun = 0; made = 0; decided = 0; own = 0; fresh = 0; cache = cache } in
       block_items t names (call_in t names 4096) (tree_at t block.0) (start steps journal) is.1
@@ -105,6 +108,7 @@ new_stands t known block caller e cache steps ops vars out conts frames no_vars 
       ∙ ap (λ l. stands_at t names (reverse l) [] hands.Gives x [] journal) (sym one)
       ∙ ap (λ l. stands_at t names (reverse conts.items) l hands.Gives x [] journal) (sym no_frames);
   counts = record { decided = refl; own = refl; fresh = refl; shared = refl };
+  journal = none;
 }
 
 ended_run : (t : Table) (names : List Name) (hand : Hand) (ks : List Cont) (frames : List Framed) (x : State) (done : List (ℕ × Act)) → IsLast hand ks
@@ -113,9 +117,14 @@ ended_run t names hands.Begins ks frames x done h = absurd h
 ended_run t names hands.Gives ks frames x done h = refl
 ended_run t names hands.Stops ks frames x done h = refl
 
+-- the journal that is kept is told
+told_journal : (caller : CallerId) (kept : Option (Vec Entry Global)) (l : List Act) → IsJournal caller kept l → option_map (λ (v : Vec Entry Global). v.items) kept ≡ journal_of (is_some kept) caller l
+told_journal caller None l h = refl
+told_journal caller (Some v) l h = ap Some h
+
 -- what the run of an ended machine came to
 pub finished : (t : Table) (known names : List Name) (block steps : ℕ) (done : List (ℕ × Act)) (m : Machine) → HasEnded m → StandsFor t known block steps done m → IsPrefix known names → length names ≤ NAMES_MAX
-    → Finishes t names block steps done m (record { caller = m.caller.0; outcome = outcome_of m.hand m.state.stop m.state.at m.state.acc; output = m.state.output.items; calls = m.state.decided; own = m.state.own; shared = 0; fresh = m.state.fresh })
+    → Finishes t names block steps done m (record { caller = m.caller; outcome = outcome_of m.hand m.state.stop m.state.at m.state.acc; output = m.state.output; calls = m.state.decided; own = m.state.own; shared = 0; fresh = m.state.fresh; journal = m.journal })
 finished t known names block steps done m ended s p few =
     let x = m.state in
     let none = last_none m.hand m.conts.items ended in
@@ -130,6 +139,7 @@ finished t known names block steps done m ended s p few =
       tells = go x.decided x.own x.fresh s.counts.decided s.counts.own s.counts.fresh;
       acts = refl;
       begun = refl;
+      journal = told_journal m.caller m.journal (map first done) s.journal;
     }
   where
     go : (decided own fresh : ℕ) → decided ≡ count_by (λ (e : ℕ × Act). is_call e.1) done → own ≡ count_by (λ (e : ℕ × Act). is_entered by.Own e.1) done → fresh ≡ count_by (λ (e : ℕ × Act). is_entered by.Fresh e.1) done

@@ -18,6 +18,7 @@ pub mod Entries
 pub mod Quiet
 pub mod Staying
 pub mod Naming
+pub mod Noting
 pub mod Holding
 pub mod Keeping
 pub mod Gathering

@@ -1,6 +1,7 @@
 -- A machine between two beginnings: for what it stands, and what its stacks have.
-use Rattle.std.specs.Prelude.{◌≡◌, ℕ, ◌+◌, ◌^◌, ◌<◌, ◌≤◌, ◌⊎◌, List, [], ◌∷◌, ◌++◌, length, map, reverse, count_by, Some}
+use Rattle.std.specs.Prelude.{◌≡◌, ℕ, Bool, is_some, ◌+◌, ◌^◌, ◌<◌, ◌≤◌, ◌⊎◌, List, [], ◌∷◌, ◌++◌, length, map, reverse, count_by, Some}
 use Rattle.std.specs.List.{AllByRecursion}
+use Rattle.std.specs.Option.{option_map}
 use mathlib.Core.List.{IsPrefix}
 use Rattle.hb_tree.specs.Table.{Table}
 use Rattle.hb_tree.specs.TreeAt.{tree_at}
@@ -9,6 +10,7 @@ use Rattle.hb_names.specs.Names.{Name}
 use Rattle.hb_tables.specs.declared.entry.Entry.{Entry}
 use Rattle.hb_tables.specs.declared.entry.Act.{Act}
 use Rattle.hb_tables.specs.declared.entry.By.TheVariants as by
+use Rattle.hb_tables.specs.Frames.{acts}
 use Rattle.hb_call.specs.Growth.{Grown}
 use Rattle.hb_call.specs.OwnCache.{IsOwnCache}
 use Rattle.hb_eval.specs.declared.cont.Cont.{Cont}
@@ -22,13 +24,15 @@ use Rattle.hb_eval.specs.declared.stop.Stop.{Stop}
 use Rattle.hb_eval.specs.declared.stop.Outcome.{Outcome}
 use Rattle.hb_eval.specs.declared.stop.Outcome.TheVariants as outcome
 use Rattle.hb_eval.specs.declared.machine.Machine.{Machine}
+use Rattle.hb_eval.specs.declared.script_run.ScriptRun.{ScriptRun}
 use Rattle.hb_eval.specs.declared.machine.Turn.{Turn}
 use Rattle.hb_eval.specs.declared.machine.Turn.TheVariants as turn
 use Rattle.hb_eval.specs.State.{Answer}
 use Rattle.hb_eval.specs.Meaning.{ev}
 use Rattle.hb_eval.specs.Calls.{call_in}
 use Rattle.hb_eval.specs.Runs.{Run, script_run, start, is_call, is_entered}
-use Rattle.hb_eval.specs.Told.{Told, told}
+use Rattle.hb_eval.specs.Told.{told, told_by}
+use Rattle.hb_eval.specs.Noting.{IsJournal, journal_of}
 use Rattle.hb_eval.specs.Machine.{need, frames_in}
 use Rattle.hb_eval.specs.Steps.{IsFine, IsFineStep, IsFed, Steady, weigh_one}
 use Rattle.hb_eval.specs.Stacks.{IsBased, AllKnown, calls_in}
@@ -77,14 +81,24 @@ pub record StandsFor (t : Table) (known : List Name) (block steps : ℕ) (done :
   pub same : (names : List Name) → IsPrefix known names → length names ≤ NAMES_MAX → (journal : List Act)
       → ev t names (call_in t names 4096) (tree_at t block) (start steps (map (λ e. e.1) done ++ journal)) ≡ answer t names m done journal
   pub counts : Counts m.state done
+  pub journal : IsJournal m.caller m.journal (map (λ e. e.1) done)
 
--- This is told of the run of a block with so many steps against these acts, which it reads to their end. So many expressions began in it as in the machine.
-pub record Finishes (t : Table) (names : List Name) (block steps : ℕ) (done : List (ℕ × Act)) (m : Machine) (r : Told) : Type 0 where
+-- the machine keeps its caller's entries
+abbrev pub keeps : Machine → Bool
+keeps m = is_some m.journal
+
+-- The acts that came are in the journal behind those that it had, where it is kept.
+abbrev pub NotesOn : (c : ℕ) → (past now : List Entry) → (old new : Machine) → Type 0
+NotesOn c past now old new = (more done : List Act) → acts c now ≡ acts c past ++ more → IsJournal old.caller old.journal done → IsJournal new.caller new.journal (done ++ more)
+
+-- This is told of the run of a block with so many steps against these acts, which it reads to their end. So many expressions began in it as in the machine, and the journal has these acts where the machine keeps one.
+pub record Finishes (t : Table) (names : List Name) (block steps : ℕ) (done : List (ℕ × Act)) (m : Machine) (r : ScriptRun) : Type 0 where
   pub run : Run
   pub reads : script_run t names (call_in t names 4096) block steps (map (λ e. e.1) done) ≡ Some run
-  pub tells : r ≡ told m.caller.0 run
+  pub tells : told_by r ≡ told m.caller.0 run
   pub acts : run.acts ≡ done
   pub begun : run.begun ≡ m.state.begun
+  pub journal : option_map (λ v. v.items) r.journal ≡ journal_of (keeps m) m.caller (map (λ e. e.1) done)
 
 -- there is a value or a stop, and nothing is left to do with it
 abbrev pub IsLast : Hand → List Cont → Type 0

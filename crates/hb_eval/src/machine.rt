@@ -1,7 +1,8 @@
 //! A machine: the run of a script between two of its beginnings.
 
-ghost use Rattle.std.specs.Prelude.{◌≡◌, ◌+◌, ◌<◌, ◌≤◌, ◌++◌, [], ℕ, List, length, IfOk, OnOk, OnErr, true, false};
+ghost use Rattle.std.specs.Prelude.{◌≡◌, ◌+◌, ◌<◌, ◌≤◌, ◌++◌, [], ℕ, List, length, IfOk, OnOk, OnErr, true, false, is_some};
 ghost use mathlib.Core.List.{IsPrefix};
+ghost use Rattle.hb_types.specs.declared.ids.CallerId.{CallerId};
 ghost use Rattle.hb_tree.specs.Table.{Table};
 ghost use Rattle.hb_tree.specs.TreeAt.{IsBlockAt};
 ghost use Rattle.hb_names.specs.declared.names.TheConstants.{NAMES_MAX};
@@ -16,12 +17,12 @@ ghost use Rattle.hb_tables.specs.History.{IsLegal};
 ghost use Rattle.hb_eval.specs.declared.machine.Turn.TheVariants.{Ended};
 ghost use Rattle.hb_eval.specs.declared.state.Hand.TheVariants as hands;
 ghost use Rattle.hb_eval.specs.State.{tagged};
-ghost use Rattle.hb_eval.specs.Told.{told_by};
+ghost use Rattle.hb_eval.specs.Noting.{IsJournal, entries};
 ghost use Rattle.hb_eval.specs.Gathering.{Shares};
 ghost use Rattle.hb_eval.specs.Holding.{Holding, frames_of};
 ghost use Rattle.hb_eval.specs.Staying.{Stays};
 ghost use Rattle.hb_eval.specs.Steps.{SameCalls};
-ghost use Rattle.hb_eval.specs.Machines.{Advances, Begins, Carries, Finishes, HasBegun, HasEnded, IsAtRest, IsFineMachine, IsGoing, IsSettled, Opens, StandsFor, Turns, outcome_of, turn_of, turns_left};
+ghost use Rattle.hb_eval.specs.Machines.{Advances, Begins, Carries, Finishes, HasBegun, HasEnded, IsAtRest, IsFineMachine, IsGoing, IsSettled, NotesOn, Opens, StandsFor, Turns, keeps, outcome_of, turn_of, turns_left};
 
 use crate::begin::begin;
 use crate::blocks::items;
@@ -30,6 +31,7 @@ use crate::framed::Framed;
 use crate::frames::pass;
 use crate::leaving::leave_all;
 use crate::moves::take;
+use crate::noting::{Begun, Lent, Noting};
 use crate::script_run::ScriptRun;
 use crate::state::{Hand, State};
 use crate::stop::{Outcome, Stop};
@@ -39,9 +41,11 @@ use hb_cache::Cache;
 use hb_call::Share;
 use hb_names::Names;
 use hb_tables::desk::Desk;
+use hb_tables::entry::Entry;
 use hb_tree::program::Program;
 use hb_types::ids::{CallerId, NodeId};
 use std::alloc::{AllocError, Global};
+use std::marker::{Brand, PhantomData};
 
 /// Whether a script goes on.
 #[derive(Clone, Copy, Debug, PartialEq, Eq)]
@@ -61,6 +65,16 @@ pub struct Machine {
     frames: Vec<Framed>,
     /// What comes next.
     hand: Hand,
+    /// What its caller did, where that is kept.
+    journal: Option<Vec<Entry>>,
+}
+
+// No entry yet, where entries are kept.
+fn journal(alloc: Global, keep: bool) -> Option<Vec<Entry>>
+    ensures kept { is_some result ≡ keep }
+    ensures none { (caller : CallerId) → IsJournal caller result [] }
+{
+    if keep { Some(Vec::new(alloc)) } else { None }
 }
 
 // How a run ended.
@@ -74,16 +88,18 @@ fn outcome(hand: Hand, stop: Stop, at: NodeId, value: Value) -> Outcome
 }
 
 impl Machine {
-    /// The machine of a block, before its first expression.
+    /// The machine of a block, before its first expression. It keeps its caller's entries where that is asked for.
     pub fn new(
         alloc: Global,
         caller: CallerId,
         block: NodeId,
         steps: u32,
+        keep_journal: bool,
     ) -> Result<Machine, AllocError>
         ensures fine { IfOk result (λ m. (t : Table) → IsBlockAt t block.0 → IsFineMachine t m) }
         ensures stands { IfOk result (λ m. (t : Table) (known : List Name) → IsBlockAt t block.0 → StandsFor t known block.0 steps [] m) }
         ensures going { IfOk result (λ m. IsGoing m) }
+        ensures keeps { IfOk result (λ m. keeps m ≡ keep_journal) }
         ensures fresh { IfOk result (λ m. (m.frames.items ≡ []) × (m.state.made ≡ 0) × (m.caller ≡ caller) × (m.state.begun ≡ 0)) }
         ensures own { IfOk result (λ m. (t : Table) (known asked : List Name) (log : List Entry) → acts caller.0 log ≡ [] → IsOwnCache t known asked caller.0 log m.state.cache) }
     {
@@ -111,6 +127,7 @@ impl Machine {
             conts,
             frames: Vec::new(alloc),
             hand: Hand::Gives,
+            journal: journal(alloc, keep_journal),
         })
     }
 
@@ -137,6 +154,7 @@ impl Machine {
         ensures shares { OnOk result (Shares prog.now (N.known names.new) (D.fixed desk.old).caller (D.front desk.old) (D.front desk.new) share.old share.new) }
         ensures alike { N.alike names.old names.new }
         ensures caller { self.new.caller ≡ self.old.caller }
+        ensures journal { self.new.journal ≡ self.old.journal }
     {
         match self.conts.pop() {
             None => Ok(false),
@@ -178,6 +196,7 @@ impl Machine {
         ensures shares { OnOk result (Shares prog.now (N.known names.new) (D.fixed desk.old).caller (D.front desk.old) (D.front desk.new) share.old share.new) }
         ensures alike { N.alike names.old names.new }
         ensures caller { self.new.caller ≡ self.old.caller }
+        ensures journal { self.new.journal ≡ self.old.journal }
     {
         match self.hand {
             Hand::Gives => {}
@@ -203,6 +222,7 @@ impl Machine {
         ensures legal { IsLegal (D.fixed desk.old).limit (D.front desk.old) → IsLegal (D.fixed desk.old).limit (D.front desk.new) }
         ensures fixed { D.fixed desk.new ≡ D.fixed desk.old }
         ensures caller { self.new.caller ≡ self.old.caller }
+        ensures journal { self.new.journal ≡ self.old.journal }
     {
         'passing: while let Some(cont) = self.conts.pop() {
             pass(desk, cont, &mut self.state, &mut self.frames);
@@ -224,6 +244,7 @@ impl Machine {
         ensures legal { IsLegal (D.fixed desk.old).limit (D.front desk.old) → IsLegal (D.fixed desk.old).limit (D.front desk.new) }
         ensures fixed { D.fixed desk.new ≡ D.fixed desk.old }
         ensures caller { self.new.caller ≡ self.old.caller }
+        ensures journal { self.new.journal ≡ self.old.journal }
     {
         match self.hand {
             Hand::Stops => self.unwind(desk),
@@ -251,6 +272,7 @@ impl Machine {
         ensures shares { OnOk result (Shares prog.now (N.known names.new) (D.fixed desk.old).caller (D.front desk.old) (D.front desk.new) share.old share.new) }
         ensures alike { N.alike names.old names.new }
         ensures caller { self.new.caller ≡ self.old.caller }
+        ensures journal { self.new.journal ≡ self.old.journal }
     {
         self.steps(alloc, prog, desk, names, share)?;
         self.end_stop(desk);
@@ -266,6 +288,7 @@ impl Machine {
         ensures calls { SameCalls self.old.state self.new.state }
         ensures frames { self.new.frames ≡ self.old.frames }
         ensures caller { self.new.caller ≡ self.old.caller }
+        ensures journal { self.new.journal ≡ self.old.journal }
     {
         self.hand = begin(alloc, prog, &mut self.state, &mut self.conts)?;
         Ok(())
@@ -292,6 +315,7 @@ impl Machine {
         ensures shares { OnOk result (Shares prog.now (N.known names.new) (D.fixed desk.old).caller (D.front desk.old) (D.front desk.new) share.old share.new) }
         ensures alike { N.alike names.old names.new }
         ensures caller { self.new.caller ≡ self.old.caller }
+        ensures journal { self.new.journal ≡ self.old.journal }
     {
         self.begin_one(alloc, prog)?;
         self.settle(alloc, prog, desk, names, share)
@@ -306,6 +330,7 @@ impl Machine {
         ensures made { self.new.state.made ≡ self.old.state.made }
         ensures frames { self.new.frames ≡ self.old.frames }
         ensures caller { self.new.caller ≡ self.old.caller }
+        ensures journal { self.new.journal ≡ self.old.journal }
     {
         match self.hand {
             Hand::Gives => self.open_block(prog),
@@ -324,6 +349,7 @@ impl Machine {
         ensures made { self.new.state.made ≡ self.old.state.made }
         ensures frames { self.new.frames ≡ self.old.frames }
         ensures caller { self.new.caller ≡ self.old.caller }
+        ensures journal { self.new.journal ≡ self.old.journal }
     {
         match self.conts.pop() {
             Some(Cont::Items(block, at)) => {
@@ -369,6 +395,7 @@ impl Machine {
         ensures shares { OnOk result (Shares prog.now (N.known names.new) (D.fixed desk.old).caller (D.front desk.old) (D.front desk.new) share.old share.new) }
         ensures alike { N.alike names.old names.new }
         ensures caller { self.new.caller ≡ self.old.caller }
+        ensures journal { self.new.journal ≡ self.old.journal }
     {
         self.open(prog)?;
         match self.hand {
@@ -377,6 +404,137 @@ impl Machine {
         }
         self.begin_next(alloc, prog, desk, names, share)?;
         Ok(self.turn())
+    }
+
+    // The same, and what its caller does meanwhile.
+    fn run_noting<B: Begun, D: Desk, N: Names>(
+        &mut self,
+        alloc: Global,
+        prog: &Program,
+        desk: &mut D,
+        names: &mut N,
+        share: &mut Share,
+        notes: &mut Vec<Entry>,
+    ) -> Result<Turn, AllocError>
+        requires fine { IsFineMachine prog.now self.old }
+        requires going { IsGoing self.old }
+        requires holding { Holding (D.fixed desk.old).caller (self.old.state.made + 1) (frames_of self.old.frames.items) (D.front desk.old) }
+        requires own { IsOwnCache prog.now (N.known names.old) (N.asked names.old) (D.fixed desk.old).caller (D.front desk.old) self.old.state.cache }
+        requires caller { B.caller ≡ self.old.caller }
+        requires begun { B.before ≡ entries self.old.caller (acts (D.fixed desk.old).caller (D.front desk.old)) }
+        ensures advances { OnOk result (Advances prog.now (D.fixed desk.old).caller (N.known names.new) (N.asked names.old) (N.asked names.new) (D.front desk.old) (D.front desk.new) self.old self.new) }
+        ensures turns { IfOk result (λ turn. Turns turn self.old self.new) }
+        ensures begun { IfOk result (λ turn. HasBegun turn self.old self.new) }
+        ensures quiet { OnOk result (self.new.state.begun ≡ self.old.state.begun → D.front desk.new ≡ D.front desk.old) }
+        ensures holding { Holding (D.fixed desk.old).caller (self.new.state.made + 1) (frames_of self.new.frames.items) (D.front desk.new) }
+        ensures stays { Stays (D.fixed desk.old) (D.fixed desk.new) (D.front desk.old) (D.front desk.new) (N.known names.old) (N.known names.new) }
+        ensures shares { OnOk result (Shares prog.now (N.known names.new) (D.fixed desk.old).caller (D.front desk.old) (D.front desk.new) share.old share.new) }
+        ensures alike { N.alike names.old names.new }
+        ensures caller { self.new.caller ≡ self.old.caller }
+        ensures journal { self.new.journal ≡ self.old.journal }
+        ensures notes { OnOk result (entries self.old.caller (acts (D.fixed desk.old).caller (D.front desk.new)) ≡ B.before ++ notes.new.items) }
+    {
+        let mut noting: Noting<Lent<D>, B> = Noting {
+            desk: Lent { desk },
+            caller: self.caller,
+            notes: Vec::new(alloc),
+            missed: false,
+            begun: PhantomData,
+        };
+        let ended = self.run(alloc, prog, &mut noting, names, share);
+        let Noting {
+            desk: lent,
+            caller: _,
+            notes: made,
+            missed,
+            begun: _,
+        } = noting;
+        let Lent { desk: _door } = lent;
+        *notes = made;
+        if missed {
+            return Err(AllocError);
+        }
+        ended
+    }
+
+    // Notes go into the journal that is kept.
+    fn note(&mut self, notes: Vec<Entry>) -> Result<(), AllocError>
+        ensures noted { OnOk result ((l : List Act) → IsJournal self.old.caller self.old.journal l → (more : List Act) → notes.items ≡ entries self.old.caller more → IsJournal self.new.caller self.new.journal (l ++ more)) }
+        ensures same { self.new ≡ record self.old { journal = self.new.journal } }
+        ensures keeps { keeps self.new ≡ keeps self.old }
+    {
+        match &mut self.journal {
+            None => Ok(()),
+            Some(journal) => {
+                let mut notes = notes;
+                journal.append(&mut notes)
+            }
+        }
+    }
+
+    // The same as `run`, where the journal is kept.
+    #[cold]
+    #[inline(never)]
+    fn run_with_journal<D: Desk, N: Names>(
+        &mut self,
+        alloc: Global,
+        prog: &Program,
+        desk: &mut D,
+        names: &mut N,
+        share: &mut Share,
+    ) -> Result<Turn, AllocError>
+        requires fine { IsFineMachine prog.now self.old }
+        requires going { IsGoing self.old }
+        requires holding { Holding (D.fixed desk.old).caller (self.old.state.made + 1) (frames_of self.old.frames.items) (D.front desk.old) }
+        requires own { IsOwnCache prog.now (N.known names.old) (N.asked names.old) (D.fixed desk.old).caller (D.front desk.old) self.old.state.cache }
+        ensures advances { OnOk result (Advances prog.now (D.fixed desk.old).caller (N.known names.new) (N.asked names.old) (N.asked names.new) (D.front desk.old) (D.front desk.new) self.old self.new) }
+        ensures turns { IfOk result (λ turn. Turns turn self.old self.new) }
+        ensures begun { IfOk result (λ turn. HasBegun turn self.old self.new) }
+        ensures quiet { OnOk result (self.new.state.begun ≡ self.old.state.begun → D.front desk.new ≡ D.front desk.old) }
+        ensures holding { Holding (D.fixed desk.old).caller (self.new.state.made + 1) (frames_of self.new.frames.items) (D.front desk.new) }
+        ensures stays { Stays (D.fixed desk.old) (D.fixed desk.new) (D.front desk.old) (D.front desk.new) (N.known names.old) (N.known names.new) }
+        ensures shares { OnOk result (Shares prog.now (N.known names.new) (D.fixed desk.old).caller (D.front desk.old) (D.front desk.new) share.old share.new) }
+        ensures alike { N.alike names.old names.new }
+        ensures caller { self.new.caller ≡ self.old.caller }
+        ensures keeps { keeps self.new ≡ keeps self.old }
+        ensures notes { OnOk result (NotesOn (D.fixed desk.old).caller (D.front desk.old) (D.front desk.new) self.old self.new) }
+    {
+        let mut notes = Vec::new(alloc);
+        let turn = self.run_noting::<Brand, D, N>(alloc, prog, desk, names, share, &mut notes)?;
+        self.note(notes)?;
+        Ok(turn)
+    }
+
+    // The same, with a journal or without.
+    #[inline(always)]
+    fn run_kept<D: Desk, N: Names>(
+        &mut self,
+        alloc: Global,
+        prog: &Program,
+        desk: &mut D,
+        names: &mut N,
+        share: &mut Share,
+    ) -> Result<Turn, AllocError>
+        requires fine { IsFineMachine prog.now self.old }
+        requires going { IsGoing self.old }
+        requires holding { Holding (D.fixed desk.old).caller (self.old.state.made + 1) (frames_of self.old.frames.items) (D.front desk.old) }
+        requires own { IsOwnCache prog.now (N.known names.old) (N.asked names.old) (D.fixed desk.old).caller (D.front desk.old) self.old.state.cache }
+        ensures advances { OnOk result (Advances prog.now (D.fixed desk.old).caller (N.known names.new) (N.asked names.old) (N.asked names.new) (D.front desk.old) (D.front desk.new) self.old self.new) }
+        ensures turns { IfOk result (λ turn. Turns turn self.old self.new) }
+        ensures begun { IfOk result (λ turn. HasBegun turn self.old self.new) }
+        ensures quiet { OnOk result (self.new.state.begun ≡ self.old.state.begun → D.front desk.new ≡ D.front desk.old) }
+        ensures holding { Holding (D.fixed desk.old).caller (self.new.state.made + 1) (frames_of self.new.frames.items) (D.front desk.new) }
+        ensures stays { Stays (D.fixed desk.old) (D.fixed desk.new) (D.front desk.old) (D.front desk.new) (N.known names.old) (N.known names.new) }
+        ensures shares { OnOk result (Shares prog.now (N.known names.new) (D.fixed desk.old).caller (D.front desk.old) (D.front desk.new) share.old share.new) }
+        ensures alike { N.alike names.old names.new }
+        ensures caller { self.new.caller ≡ self.old.caller }
+        ensures keeps { keeps self.new ≡ keeps self.old }
+        ensures notes { OnOk result (NotesOn (D.fixed desk.old).caller (D.front desk.old) (D.front desk.new) self.old self.new) }
+    {
+        match &self.journal {
+            None => self.run(alloc, prog, desk, names, share),
+            Some(_) => self.run_with_journal(alloc, prog, desk, names, share),
+        }
     }
 
     /// One beginning, and what follows from it up to the next one or to the end. A script without an expression ends at once. A check that a call makes is kept, and the share gets a copy while it collects any.
@@ -409,8 +567,9 @@ impl Machine {
         ensures grown { OnOk result (Grown prog.now (D.fixed desk.old).caller (N.known names.new) (N.asked names.old) (N.asked names.new) (D.front desk.old) (D.front desk.new)) }
         ensures alike { N.alike names.old names.new }
         ensures caller { self.new.caller ≡ self.old.caller }
+        ensures keeps { keeps self.new ≡ keeps self.old }
     {
-        match self.run(alloc, prog, desk, names, share) {
+        match self.run_kept(alloc, prog, desk, names, share) {
             Ok(turn) => Ok(turn),
             Err(error) => {
                 leave_all(desk, &mut self.frames);
@@ -423,7 +582,7 @@ impl Machine {
     pub fn finish(self) -> ScriptRun
         requires ended { HasEnded self }
         ensures run { (t : Table) (known names : List Name) (block steps : ℕ) (done : List (ℕ × Act)) → StandsFor t known block steps done self → IsPrefix known names → length names ≤ NAMES_MAX
-            → Finishes t names block steps done self (told_by result) }
+            → Finishes t names block steps done self result }
     {
         let Machine {
             caller,
@@ -431,6 +590,7 @@ impl Machine {
             conts: _,
             frames: _,
             hand,
+            journal,
         } = self;
         let State {
             operands: _,
@@ -457,6 +617,7 @@ impl Machine {
             own,
             shared: 0,
             fresh,
+            journal,
         }
     }
 }

@@ -1,6 +1,7 @@
 //! What the run of a setup or of a script came to.
 
 use crate::stop::Outcome;
+use hb_tables::entry::Entry;
 use hb_types::ids::CallerId;
 
 /// What is told of a run.
@@ -19,4 +20,6 @@ pub struct ScriptRun {
     pub shared: u32,
     /// How many of them entered on a fresh check.
     pub fresh: u32,
+    /// What it did to the tables, where that was asked for.
+    pub journal: Option<Vec<Entry>>,
 }

@@ -5,12 +5,16 @@ use Rattle.std.specs.Prelude.{slice_get}
 use Rattle.hb_names.specs.declared.names.TheConstants.{NAMES_MAX}
 use Rattle.hb_names.specs.Names.{Differ, Name}
 use Rattle.hb_tree.specs.Table.{Table}
-use Rattle.hb_tables.specs.declared.{entry.Entry.Entry, entry.Act.Act}
-use Rattle.hb_tables.specs.{Answers.Fixed, Frames.acts}
+use Rattle.hb_tables.specs.declared.entry.Entry.{Entry}
+use Rattle.hb_tables.specs.declared.entry.Act.{Act}
+use Rattle.hb_tables.specs.Answers.{Fixed}
+use Rattle.hb_tables.specs.Frames.{acts}
 use Rattle.hb_call.specs.Growth.{Grown}
 use Rattle.hb_call.specs.GrowthLaws.{grown_itself, grown_on, prefix_itself, prefix_more}
 use Rattle.hb_eval.specs.declared.machine.Machine.{Machine}
-use Rattle.hb_eval.specs.{Machines.StandsFor, State.tagged, Staying.Stays}
+use Rattle.hb_eval.specs.Machines.{StandsFor, keeps}
+use Rattle.hb_eval.specs.State.{tagged}
+use Rattle.hb_eval.specs.Staying.{Stays}
 use Rattle.hb_run.specs.Going.{GoesOn, RanAlone, Went}
 
 pub went_itself : (t : Table) (door : Fixed) (names asked : List Name) (log : List Entry) (m : Machine) → Went t door door names names asked asked log log m m
@@ -19,6 +23,7 @@ went_itself t door names asked log m = record {
   stays = record { fixed = refl; kept = prefix_itself log; legal = λ x. x; named = prefix_itself names; few = λ x. x; differ = λ x. x };
   grown = grown_itself t door.caller names asked log;
   caller = refl;
+  keeps = refl;
 }
 
 -- the acts without their numbers
@@ -31,9 +36,9 @@ pub went_turn : (t : Table) (door later latest : Fixed) (names known more : List
     → Went t door later names known was asked log now old mid
     → ((block steps : ℕ) (done : List (ℕ × Act)) → StandsFor t known block steps done mid
     → (made : List Act) × (acts later.caller last ≡ acts later.caller now ++ made) × StandsFor t more block steps (done ++ tagged begun made) new)
-    → Stays later latest now last known more → Grown t later.caller more asked again now last → new.caller ≡ mid.caller
+    → Stays later latest now last known more → Grown t later.caller more asked again now last → new.caller ≡ mid.caller → keeps new ≡ keeps mid
     → Went t door latest names more was again log last old new
-went_turn t door later latest names known more was asked again log now last old mid new begun w turn stays grown caller =
+went_turn t door later latest names known more was asked again log now last old mid new begun w turn stays grown caller kept =
     go later w.stays.fixed w turn stays grown
   where
     go : (mine : Fixed) → mine ≡ door → Went t door mine names known was asked log now old mid
@@ -74,4 +79,22 @@ went_turn t door later latest names known more was asked again log now last old 
           };
           grown = grown_on t door.caller known more was asked again log now last w.grown grown stays.named;
           caller = caller ∙ w.caller;
+          keeps = kept ∙ w.keeps;
         }
+
+pub ran-alone : (t : Table) (door later : Fixed) (names known was : List Name) (log now : List Entry) (old new : Machine)
+    → Went t door later names known was known log now old new → names ≡ [] → was ≡ [] → log ≡ [] → door.caller ≡ 1
+    → RanAlone t known now old new
+ran-alone t door later names known was log now old new w no_names no_asked no_log first = record {
+  goes = subst (λ (c : ℕ). GoesOn t c [] known [] now old new) first
+      (subst (λ (l : List Entry). GoesOn t door.caller [] known l now old new) no_log
+      (subst (λ (n : List Name). GoesOn t door.caller n known log now old new) no_names w.goes));
+  grown = subst (λ (c : ℕ). Grown t c known [] known [] now) first
+      (subst (λ (l : List Entry). Grown t door.caller known [] known l now) no_log
+      (subst (λ (n : List Name). Grown t door.caller known n known log now) no_asked w.grown));
+  few = w.stays.few (subst (λ (n : List Name). length n ≤ NAMES_MAX) (sym no_names) (omega arith));
+  differ = w.stays.differ (subst Differ (sym no_names) (λ i j name x y. absurd (none i x)));
+}
+  where
+    none : (i : ℕ) {name : Name} → slice_get [] i ≡ Some name → ⊥
+    none i e = cc e

@@ -20,8 +20,9 @@ use Rattle.hb_call.specs.Growth.{Grown, asked_after, asked_by, with_found, with_
 use Rattle.hb_call.specs.Rules.{FitsRules}
 use Rattle.hb_eval.specs.Calls.{call_in}
 use Rattle.hb_eval.specs.Runs.{Run, script_run}
-use Rattle.hb_eval.specs.Told.{Told, told}
+use Rattle.hb_eval.specs.Told.{Told, told, told_by}
 use Rattle.hb_eval.specs.declared.machine.Machine.{Machine}
+use Rattle.hb_eval.specs.declared.script_run.ScriptRun.{ScriptRun}
 use Rattle.hb_eval.specs.Machines.{Finishes, StandsFor}
 use Rattle.hb_run.specs.Going.{RanAlone}
 use Rattle.hb_run.specs.History.{AreAllRuns, AreRuns, IsHistory, IsUsed, block_of, callers_from}
@@ -207,13 +208,13 @@ history-alone t limit steps names log block r run setup scripts runs legal diffe
     one (s ∷ other ∷ ss) e = absurd (omega (arith, e))
 
 -- The machine that ran alone to its end tells the run of the one script.
-pub history-ran : (t : Table) (limit steps : ℕ) (names : List Name) (log : List Entry) (block : NodeId) (old new : Machine) (r : Told)
+pub history-ran : (t : Table) (limit steps : ℕ) (names : List Name) (log : List Entry) (block : NodeId) (old new : Machine) (r : ScriptRun)
     → t.setup ≡ None → length t.scripts ≡ 1 → block_of t 1 ≡ Some block → IsLegal limit log → AreOwn 1 log → RanAlone t names log old new
     → StandsFor t [] block.0 steps [] old → new.caller.0 ≡ 1
     → ((done : List (ℕ × Act)) → StandsFor t names block.0 steps done new → Finishes t names block.0 steps done new r)
-    → IsHistory t limit steps names log (r ∷ [])
+    → IsHistory t limit steps names log (told_by r ∷ [])
 history-ran t limit steps names log block old new r setup scripts runs legal own ran stands first finish =
     let done = finish ran.goes.made (ran.goes.stands block.0 steps [] stands) in
-    history-alone t limit steps names log block r done.run setup scripts runs legal ran.differ ran.few ran.grown own
+    history-alone t limit steps names log block (told_by r) done.run setup scripts runs legal ran.differ ran.few ran.grown own
     (ap (λ (l : List Act). script_run t names (call_in t names 4096) block.0 steps l) ran.goes.grows ∙ done.reads)
     (done.tells ∙ ap (λ (c : ℕ). told c done.run) first)

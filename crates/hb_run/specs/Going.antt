@@ -3,11 +3,14 @@ use Rattle.std.specs.Prelude.{◌≡◌, ◌≤◌, ℕ, List, [], ◌++◌, len
 use Rattle.hb_tree.specs.Table.{Table}
 use Rattle.hb_names.specs.declared.names.TheConstants.{NAMES_MAX}
 use Rattle.hb_names.specs.Names.{Differ, Name}
-use Rattle.hb_tables.specs.declared.{entry.Entry.Entry, entry.Act.Act}
-use Rattle.hb_tables.specs.{Answers.Fixed, Frames.acts}
+use Rattle.hb_tables.specs.declared.entry.Entry.{Entry}
+use Rattle.hb_tables.specs.declared.entry.Act.{Act}
+use Rattle.hb_tables.specs.Answers.{Fixed}
+use Rattle.hb_tables.specs.Frames.{acts}
 use Rattle.hb_call.specs.Growth.{Grown}
 use Rattle.hb_eval.specs.declared.machine.Machine.{Machine}
-use Rattle.hb_eval.specs.{Machines.StandsFor, Staying.Stays}
+use Rattle.hb_eval.specs.Machines.{StandsFor, keeps}
+use Rattle.hb_eval.specs.Staying.{Stays}
 
 -- Some acts came to the caller's own, each with the number of beginnings. Whatever run the machine stood for, it stands for it behind these acts.
 pub record GoesOn (t : Table) (c : ℕ) (names known : List Name) (was now : List Entry) (old new : Machine) : Type 0 where
@@ -21,6 +24,7 @@ pub record Went (t : Table) (door later : Fixed) (names known was asked : List N
   pub stays : Stays door later log now names known
   pub grown : Grown t door.caller known was asked log now
   pub caller : new.caller ≡ old.caller
+  pub keeps : keeps new ≡ keeps old
 
 -- The machine of the first script went on from nothing: these are its names, and these its entries.
 pub record RanAlone (t : Table) (names : List Name) (log : List Entry) (old new : Machine) : Type 0 where

@@ -65,7 +65,7 @@ fn run_script(
 {
     let mut tables = PlainTables::new(alloc, versions)?;
     let mut names = PlainNames::new(alloc);
-    let mut machine = Machine::new(alloc, FIRST, block, steps)?;
+    let mut machine = Machine::new(alloc, FIRST, block, steps, false)?;
     run_on(alloc, prog, &mut machine, &mut tables, &mut names)?;
     Ok(machine.finish())
 }

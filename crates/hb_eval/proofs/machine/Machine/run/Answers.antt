@@ -19,6 +19,7 @@ returns-in_default g c =
       shares = shares_itself _ _ _ _ _;
       alike = g.N.Names.alike_itself _;
       caller = c.open.ensures.caller;
+      journal = c.open.ensures.journal;
     }
 
 pub returns-clause-advances : goal.returns-clause-advances

@@ -17,5 +17,5 @@ returns-in_ok-hand-in-Some-clause-carries g c =
 
 pub returns-in_ok-hand-in-Some-clause-falls : goal.returns-in_ok-hand-in-Some-clause-falls
 returns-in_ok-hand-in-Some-clause-falls g c more =
-    let new : Machine = record { caller = c.args.self.now.caller; state = c.apply.new.state; conts = c.apply.new.conts; frames = c.apply.new.frames; hand = c.in_ok-hand-in-Some.hand } in
+    let new : Machine = record { caller = c.args.self.now.caller; state = c.apply.new.state; conts = c.apply.new.conts; frames = c.apply.new.frames; hand = c.in_ok-hand-in-Some.hand; journal = c.args.self.now.journal } in
     value_falls c.args.prog.now _ _ _ _ c.args.self.now new c.in-Some.cont c.pop.new.self.items c.requires.gives c.in-Some.ensures.items c.in_ok-hand-in-Some.ensures.turned

@@ -18,6 +18,7 @@ steps-init g c = record {
   alike = g.N.Names.alike_itself c.args.names.now;
   gives = c.in-Gives.is;
   caller = refl;
+  journal = refl;
 }
 
 pub step-requires : goal.step-requires
@@ -44,6 +45,7 @@ steps-preserved g c =
       alike = g.N.Names.alike_on _ _ _ inv.alike s.alike;
       gives = s.gives c.if-branch.true;
       caller = s.caller ∙ inv.caller;
+      journal = s.journal ∙ inv.journal;
     }
 
 pub returns-in_err-step-clause-stays : goal.returns-in_err-step-clause-stays

@@ -15,6 +15,7 @@ invariant-steps g l = record {
   alike : g.N.Names.alike l.fn.names l.names;
   gives : l.self.hand ≡ hands.Gives;
   caller : l.self.caller ≡ l.fn.self.caller;
+  journal : l.self.journal ≡ l.fn.self.journal;
 }
 
 abbrev pub decreases-steps : goal.decreases-steps

@@ -28,6 +28,7 @@ passing-init g c = record {
   legal = λ h. h;
   fixed = refl;
   caller = refl;
+  journal = refl;
 }
 
 pub pass-requires : goal.pass-requires
@@ -55,7 +56,7 @@ passing-preserved g c =
     let same = inv.fixed in
     let k = c.in-Some.cont in
     let old = c.passing.self in
-    let new : Machine = record { caller = old.caller; state = c.pass.new.state; conts = c.pop.new.self; frames = c.pass.new.frames; hand = old.hand } in
+    let new : Machine = record { caller = old.caller; state = c.pass.new.state; conts = c.pop.new.self; frames = c.pass.new.frames; hand = old.hand; journal = old.journal } in
     let top : reverse old.conts.items ≡ k ∷ reverse c.pop.new.self.items = ap reverse c.in-Some.ensures.items ∙ pushed_first c.pop.new.self.items k in
     let low = c.pass.ensures.lowers in
     let reads : (t : Table) (known : List Name) → Reads known who half now old.state new.state (with_stop t (k ∷ []) old.frames.items old.state) (with_stop t [] new.frames.items new.state) =
@@ -75,6 +76,7 @@ passing-preserved g c =
       legal = λ h. subst (λ (z : Fixed). IsLegal z.limit half → IsLegal z.limit now) same c.pass.ensures.legal (inv.legal h);
       fixed = c.pass.ensures.fixed ∙ same;
       caller = inv.caller;
+      journal = inv.journal;
     }
 
 pub returns-clause-unwinds : goal.returns-clause-unwinds

@@ -22,6 +22,7 @@ invariant-passing g l = record {
   legal : IsLegal (g.D.Desk.fixed l.fn.desk).limit (g.D.Desk.front l.fn.desk) → IsLegal (g.D.Desk.fixed l.fn.desk).limit (g.D.Desk.front l.desk);
   fixed : g.D.Desk.fixed l.desk ≡ g.D.Desk.fixed l.fn.desk;
   caller : l.self.caller ≡ l.fn.self.caller;
+  journal : l.self.journal ≡ l.fn.self.journal;
 }
 
 abbrev pub decreases-passing : goal.decreases-passing

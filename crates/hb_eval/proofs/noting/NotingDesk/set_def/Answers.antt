@@ -1,0 +1,5 @@
+use Rattle.hb_eval.proofs.NotingLemmas.{noted_adds}
+use Rattle.hb_eval.proofs.noting.NotingDesk.set_def.Goals as goal
+
+pub invariant_of-self : goal.invariant_of-self
+invariant_of-self g c = record { whose = c.args.self.now.whose; noted = noted_adds c.args.self.now.caller _ _ _ _ _ _ _ _ _ _ c.set_def-answer.ensures.fixed (c.act_of_def-act.ensures _ _ _ c.set_def-answer.ensures.entry) c.args.self.now.noted c.note.ensures }
