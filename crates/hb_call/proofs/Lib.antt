@@ -5,6 +5,7 @@ pub mod StayLemmas
 pub mod CallingLemmas
 pub mod BegunLemmas
 pub mod StepLemmas
+pub mod PastLemmas
 pub mod RetreatLemmas
 pub mod TakesLemmas
 pub mod DecidingLemmas

@@ -7,6 +7,7 @@ mod comparing;
 mod entering;
 mod frame;
 mod keeping;
+pub mod laws;
 mod ruling;
 mod share;
 

@@ -53,11 +53,8 @@ one e = Trees e NoTree
 kinds : ArgKinds
 kinds = record { count = 1; kinds = ty.Int ∷ ty.Nil ∷ ty.Nil ∷ ty.Nil ∷ [] }
 
-hold_of : (site : ℕ) → ℕ → Act
-hold_of site q = act.Hold (record { 0 = q }) (record { 0 = 0 }) (Some (record { 0 = site })) 1
-
 hold : ℕ → Act
-hold = hold_of 0
+hold q = act.Hold (record { 0 = q }) (record { 0 = 0 }) (Some (record { 0 = 0 })) 1
 
 free : ℕ → Act
 free q = act.Free (record { 0 = q }) (record { 0 = 0 })
@@ -75,29 +72,29 @@ entered = verdict.Enter by.Fresh
 -- a body gives its last item's value, and its call holds its key until then
 gives : run 100 (hold 1 ∷ call 1 1 entered ∷ free 1 ∷ []) (one asks)
     ≡ Some (record { outcome = outcome.Done (value.Int (pos 7)); output = []; acts = (3, hold 1) ∷ (3, call 1 1 entered) ∷ (4, free 1) ∷ []; begun = 4 })
-unfolding run one program at_place asks hold hold_of free call kinds entered call_in then_do begin tree_at tree_down
+unfolding run one program at_place asks hold free call kinds entered call_in then_do begin tree_at tree_down
 gives = refl
 
 -- a body sees no variable of its caller, and its stop passes the call's Frees
 sees : run 100 (hold 1 ∷ call 1 0 entered ∷ free 1 ∷ []) (Trees (TAssign 21 2 (TInt 20 (pos 1))) (one asks))
     ≡ stopped stop.Unbound 1 8 ((5, hold 1) ∷ (5, call 1 0 entered) ∷ (8, free 1) ∷ [])
-unfolding run stopped one program at_place asks hold hold_of free call kinds entered call_in then_do begin tree_at tree_down
+unfolding run stopped one program at_place asks hold free call kinds entered call_in then_do begin tree_at tree_down
 sees = refl
 
 -- a call that may not run gives its key back at once
 refuses : run 100 (hold 1 ∷ call 1 1 verdict.BadArgs ∷ free 1 ∷ []) (one asks)
     ≡ stopped stop.BadArgs 12 3 ((3, hold 1) ∷ (3, call 1 1 verdict.BadArgs) ∷ (3, free 1) ∷ [])
-unfolding run stopped one program at_place asks hold hold_of free call kinds call_in then_do begin tree_at tree_down
+unfolding run stopped one program at_place asks hold free call kinds call_in then_do begin tree_at tree_down
 refuses = refl
 
 -- a call that finds the list of names full gives back what it holds, and has no Call
 full : run 100 (hold 1 ∷ free 1 ∷ []) (one asks) ≡ stopped stop.Full 12 3 ((3, hold 1) ∷ (3, free 1) ∷ [])
-unfolding run stopped one program at_place asks hold hold_of free kinds call_in then_do begin tree_at tree_down
+unfolding run stopped one program at_place asks hold free kinds call_in then_do begin tree_at tree_down
 full = refl
 
 -- where its type does not take the argument, it finds no full list
-unfit : run 100 (hold_of 1 1 ∷ free 1 ∷ []) (one asks) ≡ None
-unfolding run one program at_place asks hold_of free kinds call_in then_do begin tree_at tree_down
+unfit : run 100 (act.Hold (record { 0 = 1 }) (record { 0 = 0 }) (Some (record { 0 = 1 })) 1 ∷ free 1 ∷ []) (one asks) ≡ None
+unfolding run one program at_place asks free kinds call_in then_do begin tree_at tree_down
 unfit = refl
 
 -- nil has no methods

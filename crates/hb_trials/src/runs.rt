@@ -167,7 +167,7 @@ const GREETING: &str =
 const BUSY: &str =
     "class A\nscript main\ntype A.g : () -> Int\ndef A.g() 1 end\ntype A.f : () -> Int\ndef A.f() type A.g : () -> Str; self.g end\nprint A.new.f\nend\n";
 
-const ROWS: [Row; 32] = [
+const ROWS: [Row; 33] = [
     ("", STEPS, VERSIONS_MAX, ""),
     (
         GREETING,
@@ -321,6 +321,13 @@ const ROWS: [Row; 32] = [
         STEPS,
         VERSIONS_MAX,
         "script main\nstop Full 10:7\ncalls 0 own 0 shared 0 fresh 0\n",
+    ),
+    // Arguments that do not fit come first: nothing is looked at.
+    (
+        "class A\nscript main\ntype A.m0 : () -> Int\ndef A.m0() self.q end\ni = 1\nwhile i < 1024 do\ndef A.(\"m\" ++ str(i))() 0 end\ni = i + 1\nend\nA.new.m0(1)\nend\n",
+        STEPS,
+        VERSIONS_MAX,
+        "script main\nstop BadArgs 10:7\ncalls 1 own 0 shared 0 fresh 0\n",
     ),
     (
         "class A\nscript main\ntype A.g : () -> Int\ntype A.g : () -> Int\nend\n",

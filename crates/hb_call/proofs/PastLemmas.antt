@@ -1,0 +1,73 @@
+-- What is read behind the first Hold of a call.
+use Rattle.std.proofs.Common.{◌≡◌, ℕ, Bool, true, false, List, [], ◌∷◌, ◌++◌, Some, None, refl, sym, ap, ◌∙◌, subst, nat_eq}
+use Rattle.std.proofs.lemmas.List.{append-nil}
+use Rattle.std.specs.Prelude.{Option, ◌&&◌, if◌then◌else◌}
+use Rattle.std.specs.Option.{option_map}
+use Rattle.hb_types.specs.declared.ids.CallNo.{CallNo}
+use Rattle.hb_types.specs.declared.ids.KeyId.{KeyId}
+use Rattle.hb_types.specs.declared.ids.TypeSite.{TypeSite}
+use Rattle.hb_types.specs.declared.types.MethodTy.{MethodTy}
+use Rattle.hb_types.specs.declared.types.Ty.{Ty}
+use Rattle.hb_tree.specs.Table.{Table}
+use Rattle.hb_deriv.specs.Derivation.{type_at}
+use Rattle.hb_deriv.specs.Programs.{sites_of}
+use Rattle.hb_tables.specs.declared.desk.Held.{Held}
+use Rattle.hb_tables.specs.declared.entry.Act.{Act}
+use Rattle.hb_tables.specs.declared.entry.Act.TheVariants.{Hold, Free, Retype, Busy, WornType, Define, WornDef, Call}
+use Rattle.hb_tables.specs.declared.entry.Entry.{Entry}
+use Rattle.hb_tables.specs.History.{Adds, IsLegal, entry, spot}
+use Rattle.hb_tables.specs.Rows.{type_of_key}
+use Rattle.hb_tables.specs.Standing.{Stand}
+use Rattle.hb_tables.specs.Verdicts.{takes, typed_takes}
+use Rattle.hb_tables.proofs.AddingLemmas.{held_after}
+use Rattle.hb_tables.proofs.HistoryLemmas.{legal_prefix}
+use Rattle.hb_call.specs.Calling.{HasType, IsPart}
+use Rattle.hb_call.specs.Reading.{Lost, call_of, decision, takes_at}
+use Rattle.hb_call.specs.Rules.{Began}
+use Rattle.hb_call.proofs.StartLemmas.{none_held}
+use Rattle.hb_call.proofs.StayLemmas.{hold_finds, type_stays}
+
+-- where the type does not take the arguments, no Hold and no Free is read
+nothing_past : (q k : ℕ) (kinds : List Ty) (held : List Stand) (p : CallNo) (a : Act) (l : List Act) → IsPart p a → decision false q k kinds held (a ∷ l) ≡ Lost
+nothing_past q k kinds held p (Hold r key ty n) l h = refl
+nothing_past q k kinds held p (Free r key) l h = refl
+nothing_past q k kinds held p (Retype key site) l h = absurd h
+nothing_past q k kinds held p (Busy key pins) l h = absurd h
+nothing_past q k kinds held p (WornType key) l h = absurd h
+nothing_past q k kinds held p (Define key site) l h = absurd h
+nothing_past q k kinds held p (WornDef key) l h = absurd h
+nothing_past q k kinds held p (Call r key site args v) l h = absurd h
+
+read_past : (t : Table) (q : CallNo) (key : KeyId) (ty : Option TypeSite) (n : ℕ) (kinds : List Ty) (a : Act) (l : List Act) → IsPart q a → (call_of t q.0 key.0 kinds (Hold q key ty n ∷ a ∷ l) ≡ Lost → ⊥) → takes_at t ty kinds ≡ true
+read_past t q key ty n kinds a l part some = by (takes_at t ty kinds) refl
+  where
+    first : List Stand
+    first = record { key = key.0; ty = ty; changes = n } ∷ []
+
+    lost : (own : Bool) → (if own then decision false q.0 key.0 kinds first (a ∷ l) else Lost) ≡ Lost
+    lost true = nothing_past q.0 key.0 kinds first q a l part
+    lost false = refl
+
+    by : (fits : Bool) → takes_at t ty kinds ≡ fits → takes_at t ty kinds ≡ true
+    by true e = e
+    by false e = absurd (some (ap (λ (f : Bool). if nat_eq q.0 q.0 && nat_eq key.0 key.0 then decision f q.0 key.0 kinds first (a ∷ l) else Lost) e ∙ lost (nat_eq q.0 q.0 && nat_eq key.0 key.0)))
+
+-- the type that the first Hold found is that of the key
+began_type : (limit c : ℕ) (q : CallNo) (key : KeyId) (start log : List Entry) (b : Began c q key start log) → IsLegal limit log → b.ty ≡ (spot key.0 log).ty
+began_type limit c q key start log b legal =
+    let low : IsLegal limit start = legal_prefix limit start log (b.since, b.goes) legal in
+    let adds : Adds c b.before start (Hold q key b.ty b.changes) = ([], b.is ∙ ap (λ w. w ++ entry c (Hold q key b.ty b.changes) ∷ []) (sym (append-nil b.before)), refl) in
+    let finds = hold_finds limit c q key b.ty b.changes b.before start adds low in
+    let found : Held = record { ty = b.ty; changes = b.changes } in
+    let typed : HasType start (c, q.0) key.0 found = (held_after c b.before start q key b.ty b.changes adds (none_held c q.0 key.0 b.before b.none), finds.0, finds.1) in
+    (subst (λ l. HasType l (c, q.0) key.0 found) b.goes (type_stays limit c q.0 start b.since (subst (IsLegal limit) (sym b.goes) legal) key.0 b.keeps found typed)).1
+
+typed_so : (m : Option MethodTy) (kinds : List Ty) → typed_takes m kinds ≡ true → (n : MethodTy) × (m ≡ Some n) × (takes n kinds ≡ true)
+typed_so None kinds h = absurd (cc h)
+typed_so (Some m) kinds h = (m, refl, h)
+
+pub past : (t : Table) (limit c : ℕ) (q : CallNo) (key : KeyId) (start log : List Entry) (b : Began c q key start log) (kinds : List Ty) (a : Act) (l : List Act) → IsLegal limit log
+    → IsPart q a → (call_of t q.0 key.0 kinds (Hold q key b.ty b.changes ∷ a ∷ l) ≡ Lost → ⊥) → (m : MethodTy) × (type_of_key t log key.0 ≡ Some m) × (takes m kinds ≡ true)
+past t limit c q key start log b kinds a l legal part some =
+    let ty : takes_at t b.ty kinds ≡ typed_takes (type_of_key t log key.0) kinds = ap (λ (o : Option TypeSite). typed_takes (type_at (sites_of t) (option_map (λ (s : TypeSite). s.0) o)) kinds) (began_type limit c q key start log b legal) in
+    typed_so (type_of_key t log key.0) kinds (sym ty ∙ read_past t q key b.ty b.changes kinds a l part some)
