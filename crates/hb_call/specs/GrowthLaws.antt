@@ -34,7 +34,7 @@ pub prefix_more : {X : Type 0} (a b c : List X) → IsPrefix a b → IsPrefix b 
 prefix_more a b c p q = (p.0 ++ q.0, sym (append_assoc a p.0 q.0) ∙ ap (λ w. w ++ q.0) p.1 ∙ q.1)
 
 -- an entry of two lists together stands behind the first, or in it
-split : (xs ys before after : List Entry) (e : Entry) → xs ++ ys ≡ before ++ e ∷ after → (IsPrefix xs before) ⊎ ((rest : List Entry) × (xs ≡ before ++ e ∷ rest))
+pub split : (xs ys before after : List Entry) (e : Entry) → xs ++ ys ≡ before ++ e ∷ after → (IsPrefix xs before) ⊎ ((rest : List Entry) × (xs ≡ before ++ e ∷ rest))
 split [] ys before after e is = inl (before, refl)
 split (x ∷ xs) ys [] after e is = inr (xs, let h : x ≡ e = cc is in ap (λ y. y ∷ xs) h)
 split (x ∷ xs) ys (b ∷ before) after e is = let h : x ≡ b = cc is in elim (split xs ys before after e (cc is)) [ inl p ↦ inl (p.0, cc (h, p.1)) | inr r ↦ inr (r.0, cc (h, r.1)) ]

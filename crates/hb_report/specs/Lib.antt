@@ -1,2 +1,5 @@
 pub mod Words
+pub mod Places
 pub mod Report
+pub mod Journals
+pub mod Trace

@@ -4,24 +4,14 @@ use Rattle.std.specs.List.{flat_map, list_all}
 use Rattle.hb_types.specs.declared.ids.NameId.{NameId}
 use Rattle.hb_types.specs.declared.ids.NodeId.{NodeId}
 use Rattle.hb_tree.specs.Table.{Table}
-use Rattle.hb_tree.specs.Nodes.{place_at}
 use Rattle.hb_tree.specs.Canon.{bytes_at}
-use Rattle.hb_deriv.specs.declared.ill.Ill.{Ill}
 use Rattle.hb_eval.specs.declared.stop.Stop.{Stop}
 use Rattle.hb_eval.specs.declared.stop.Stop.TheVariants as stop
 use Rattle.hb_eval.specs.declared.stop.Outcome.{Outcome}
 use Rattle.hb_eval.specs.declared.stop.Outcome.TheVariants as outcome
 use Rattle.hb_eval.specs.Told.{Told, is_done}
-use Rattle.hb_report.specs.Words.{stop_word, reason_word}
-
--- a line and a column, where there are
-abbrev pub line_and_column : Option (ℕ × ℕ) → List ℕ
-line_and_column None = []
-line_and_column (Some place) = decimal place.0 ++ codes ":" ++ decimal place.1
-
--- the place of a node
-abbrev pub place : Table → ℕ → List ℕ
-place t id = line_and_column (place_at t id)
+use Rattle.hb_report.specs.Places.{fault, place}
+use Rattle.hb_report.specs.Words.{stop_word}
 
 abbrev pub name_of : Table → Option (NameId × NodeId) → List ℕ
 name_of t None = []
@@ -33,10 +23,6 @@ head_line t caller =
     if nat_eq caller 0
     then codes "setup\n"
     else codes "script " ++ name_of t (slice_get t.scripts (caller - 1)) ++ codes "\n"
-
--- what is wrong in a body, and where
-abbrev pub fault : Table → Ill → List ℕ
-fault t ill = codes " " ++ reason_word ill.reason ++ codes " " ++ place t ill.node.0
 
 -- of a call that does not enter since its body is ill typed
 abbrev pub fault_of : Table → Stop → List ℕ

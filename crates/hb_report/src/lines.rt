@@ -4,8 +4,8 @@ ghost use Rattle.std.specs.Prelude.{◌≡◌, ◌++◌, slice_get, IfOk, OnOk, 
 ghost use Rattle.hb_eval.specs.Told.{told_by};
 ghost use Rattle.hb_report.specs.Report as report;
 
-use crate::words::{reason_word, stop_word};
-use hb_deriv::ill::Ill;
+use crate::places::{push_fault, push_place};
+use crate::words::stop_word;
 use hb_eval::script_run::ScriptRun;
 use hb_eval::stop::{Outcome, Stop};
 use hb_tree::program::Program;
@@ -41,29 +41,8 @@ pub fn push_head_line(
     Ok(())
 }
 
-// The place of a node. There is none where the program has no such node.
-fn place(alloc: Global, prog: &Program, node: NodeId) -> Result<String, AllocError>
-    ensures { IfOk result (λ text. string_bytes text ≡ report.place prog.now node.0) }
-{
-    if node.0 as usize >= prog.nodes() {
-        return Ok(String::new(alloc));
-    }
-    let (line, column) = prog.place(node);
-    format!(in alloc; "{line}:{column}")
-}
-
-// What is wrong in the body of a call, and where.
-fn fault(alloc: Global, prog: &Program, ill: Ill) -> Result<String, AllocError>
-    ensures { IfOk result (λ text. string_bytes text ≡ report.fault prog.now ill) }
-{
-    let reason = reason_word(ill.reason);
-    let place = place(alloc, prog, ill.node)?;
-    format!(in alloc; " {reason} {place}")
-}
-
 // Adds the line of a stop at a node.
 fn push_stop_line(
-    alloc: Global,
     lines: &mut Vec<u8>,
     prog: &Program,
     stop: Stop,
@@ -74,9 +53,9 @@ fn push_stop_line(
     lines.extend_from_slice(b"stop ")?;
     lines.extend_from_slice(stop_word(stop).as_bytes())?;
     lines.push(b' ')?;
-    lines.extend_from_slice(place(alloc, prog, node)?.as_bytes())?;
+    push_place(lines, prog, node)?;
     if let Stop::IllTyped(ill) = stop {
-        lines.extend_from_slice(fault(alloc, prog, ill)?.as_bytes())?;
+        push_fault(lines, prog, ill)?;
     }
     lines.push(b'\n')?;
     Ok(())
@@ -84,7 +63,6 @@ fn push_stop_line(
 
 /// Adds the line that tells how a run ended.
 pub fn push_end_line(
-    alloc: Global,
     lines: &mut Vec<u8>,
     prog: &Program,
     outcome: &Outcome,
@@ -96,7 +74,7 @@ pub fn push_end_line(
             lines.extend_from_slice(b"done\n")?;
             Ok(())
         }
-        Outcome::Stopped(stop, node) => push_stop_line(alloc, lines, prog, *stop, *node),
+        Outcome::Stopped(stop, node) => push_stop_line(lines, prog, *stop, *node),
     }
 }
 

@@ -21,7 +21,7 @@ fn push_section(
 {
     push_head_line(lines, prog, run.caller)?;
     lines.extend_from_slice(&run.output)?;
-    push_end_line(alloc, lines, prog, &run.outcome)?;
+    push_end_line(lines, prog, &run.outcome)?;
     lines.extend_from_slice(count_line(alloc, run)?.as_bytes())?;
     Ok(())
 }

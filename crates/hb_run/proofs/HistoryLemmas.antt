@@ -1,8 +1,8 @@
 -- The history of a program of one script, or of none.
 use Rattle.std.proofs.Common.{◌≡◌, ◌⊎◌, inl, inr, ℕ, zero, suc, ◌<◌, ◌≤◌, List, [], ◌∷◌, ◌++◌, length, map, Option, Some, None, true, false, Bool, refl, sym, ap, ◌∙◌, subst, arith, append_assoc, rules}
-use Rattle.std.specs.Prelude.{Contains, slice_get, slice_index_or, is_some, IsSome, cond, option_map, ◌==◌, if◌then◌else◌}
+use Rattle.std.specs.Prelude.{All, Contains, slice_get, slice_index_or, is_some, IsSome, cond, option_map, ◌==◌, if◌then◌else◌}
 use Rattle.std.proofs.lemmas.List.{append-nil}
-use Rattle.std.proofs.lemmas.List.Elements.{Contains-append_cases}
+use Rattle.std.proofs.lemmas.List.Elements.{All-from_recursion, Contains-append_cases}
 use Rattle.std.specs.List.{AllByRecursion}
 use Rattle.hb_types.specs.declared.ids.NodeId.{NodeId}
 use Rattle.hb_types.specs.declared.ids.NameId.{NameId}
@@ -61,7 +61,7 @@ history-none t limit steps setup scripts = record {
 -- ── each name that was asked for is that of an act's key ──
 
 -- the key's name was asked for by one of these acts
-abbrev IsAskedBy : (names : List Name) → Name → List Act → Type 0
+abbrev pub IsAskedBy : (names : List Name) → Name → List Act → Type 0
 IsAskedBy names name [] = ⊥
 IsAskedBy names name (a ∷ l) = (slice_get names (key_of a) ≡ Some name) ⊎ IsAskedBy names name l
 
@@ -93,7 +93,7 @@ in_asked_by names asked (Define key site) name h = in_with_key names asked key.0
 in_asked_by names asked (WornDef key) name h = in_with_key names asked key.0 name h
 in_asked_by names asked (Call q key site args verdict) name h = inl h
 
-in_asked_after : (names asked : List Name) (l : List Act) (name : Name) → Contains (asked_after names asked l) name → Contains asked name ⊎ IsAskedBy names name l
+pub in_asked_after : (names asked : List Name) (l : List Act) (name : Name) → Contains (asked_after names asked l) name → Contains asked name ⊎ IsAskedBy names name l
 in_asked_after names asked [] name h = inl h
 in_asked_after names asked (a ∷ l) name h = elim (in_asked_after names (asked_by names asked a) l name h) [
   | inl x ↦ elim (in_asked_by names asked a name x) [ inl y ↦ inl y | inr e ↦ inr (inl e) ]
@@ -108,10 +108,10 @@ pub record HasEntry (names : List Name) (name : Name) (log : List Entry) : Type 
   pub is : log ≡ before ++ e ∷ after
   pub key : slice_get names (key_of e.act) ≡ Some name
 
-entry_behind : (names : List Name) (name : Name) (e : Entry) (es : List Entry) → HasEntry names name es → HasEntry names name (e ∷ es)
+pub entry_behind : (names : List Name) (name : Name) (e : Entry) (es : List Entry) → HasEntry names name es → HasEntry names name (e ∷ es)
 entry_behind names name e es x = record { before = e ∷ x.before; e = x.e; after = x.after; is = ap (λ l. e ∷ l) x.is; key = x.key }
 
-in_log : (names : List Name) (name : Name) (c : ℕ) (log : List Entry) → IsAskedBy names name (acts c log) → HasEntry names name log
+pub in_log : (names : List Name) (name : Name) (c : ℕ) (log : List Entry) → IsAskedBy names name (acts c log) → HasEntry names name log
 in_log names name c [] h = absurd h
 in_log names name c (e ∷ es) h = go (c == e.caller.0) (in_log names name c es) h
   where
@@ -120,11 +120,11 @@ in_log names name c (e ∷ es) h = go (c == e.caller.0) (in_log names name c es)
     go true onward (inr later) = entry_behind names name e es (onward later)
     go false onward later = entry_behind names name e es (onward later)
 
-used-key : (names : List Name) (log : List Entry) (c key : ℕ) (made : List Act) → Differ names → names ≡ asked_after names [] made → acts c log ≡ made → key < length names → IsUsed names log key
-used-key names log c key made differ asked same below =
+-- each key of the names is that of an entry
+pub used_all : (names : List Name) (log : List Entry) → Differ names → ((name : Name) → Contains names name → HasEntry names name log) → (key : ℕ) → key < length names → IsUsed names log key
+used_all names log differ has key below =
     let there = some_at names key below in
-    let asked_for : Contains (asked_after names [] made) there.0 = subst (λ (l : List Name). Contains l there.0) asked (at_place names key there.0 there.1) in
-    let entry = in_log names there.0 c log (subst (IsAskedBy names there.0) (sym same) (not_before (in_asked_after names [] made there.0 asked_for))) in
+    let entry = has there.0 (at_place names key there.0 there.1) in
     (entry.before, entry.after, entry.e, entry.is, differ (key_of entry.e.act) key there.0 entry.key there.1)
   where
     some_at : (xs : List Name) (k : ℕ) → k < length xs → (name : Name) × (slice_get xs k ≡ Some name)
@@ -137,13 +137,29 @@ used-key names log c key made differ asked same below =
     at_place (x ∷ xs) zero name e = (0, omega arith, let same : x ≡ name = cc in same)
     at_place (x ∷ xs) (suc k) name e = let h = at_place xs k name e in (suc h.0, omega (arith, h.1), h.2)
 
+used-key : (names : List Name) (log : List Entry) (c key : ℕ) (made : List Act) → Differ names → names ≡ asked_after names [] made → acts c log ≡ made → key < length names → IsUsed names log key
+used-key names log c key made differ asked same below =
+    used_all names log differ (λ name there. in_log names name c log (subst (IsAskedBy names name) (sym same) (not_before (in_asked_after names [] made name (subst (λ (l : List Name). Contains l name) asked there))))) key below
+  where
     not_before : {name : Name} → Contains [] name ⊎ IsAskedBy names name made → IsAskedBy names name made
     not_before (inl h) = absurd (omega (arith, h.1))
     not_before (inr h) = h
 
+-- where the entries are all of the setup, so are those before one of them
+pub turn_of_own : (front before after : List Entry) (e : Entry) → AreOwn 0 front → front ≡ before ++ e ∷ after → All (λ (b : Entry). b.caller.0 ≡ 0) before
+turn_of_own front before after e own is = All-from_recursion (λ (b : Entry). b.caller.0 ≡ 0) before (start before (e ∷ after) (subst (AreOwn 0) is own))
+  where
+    start : (xs ys : List Entry) → AreOwn 0 (xs ++ ys) → AreOwn 0 xs
+    start [] ys h = tt
+    start (x ∷ xs) ys h = (h.0, start xs ys h.1)
+
+pub is_some_block : (o : Option NodeId) (block : NodeId) → o ≡ Some block → IsSome o
+is_some_block None block e = absurd cc
+is_some_block (Some b) block e = search rules
+
 -- ── each act's key is that of a name ──
 
-place-below : (names : List Name) (name : Name) (key : ℕ) → place names name ≡ Some key → key < length names
+pub place-below : (names : List Name) (name : Name) (key : ℕ) → place names name ≡ Some key → key < length names
 place-below [] name key e = absurd cc
 place-below (known ∷ names) name key e = go (same_name known name) (place names name) (λ k is. place-below names name k is) e
   where
@@ -152,7 +168,7 @@ place-below (known ∷ names) name key e = go (same_name known name) (place name
     go false None below e = absurd cc
     go false (Some k) below e = let next : suc k ≡ key = cc in let h = below k refl in omega (arith, next, h)
 
-key-below : (t : Table) (names : List Name) (limit : ℕ) (log : List Entry)
+pub key-below : (t : Table) (names : List Name) (limit : ℕ) (log : List Entry)
     → Every (λ before e. FitsRules t names e.caller.0 before e.act) log → IsLegal limit log
     → Every (λ before e. key_of e.act < length names) log
 key-below t names limit log rules legal before after e is =
@@ -186,15 +202,11 @@ history-alone t limit steps names log block r run setup scripts runs legal diffe
   few = few;
   keys = key-below t names limit log rules legal;
   used = λ key below. used-key names log 1 key grown.made differ (grown.names names ([], append-nil names)) grown.grows below;
-  callers = λ before after e is. is_some_block (block_of t e.caller.0) (ap (block_of t) (mine before after e is) ∙ runs);
+  callers = λ before after e is. is_some_block (block_of t e.caller.0) block (ap (block_of t) (mine before after e is) ∙ runs);
   in_turn = λ before after e is none. absurd (let one = mine before after e is in omega (arith, one, none));
   all_runs = subst (λ (s : Option NodeId). AreAllRuns t names steps log s (r ∷ [])) (sym setup) (one t.scripts scripts);
 }
   where
-    is_some_block : (o : Option NodeId) → o ≡ Some block → IsSome o
-    is_some_block None e = cc e
-    is_some_block (Some b) e = search rules
-
     mine : (before after : List Entry) (e : Entry) → log ≡ before ++ e ∷ after → e.caller.0 ≡ 1
     mine before after e is = each_at (λ (x : Entry). x.caller.0 ≡ 1) log before after e own is
 

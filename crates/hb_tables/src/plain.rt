@@ -99,6 +99,14 @@ impl PlainTables {
         &self.history
     }
 
+    /// All entries, where no door will be opened any more.
+    pub fn into_history(self) -> Vec<Entry>
+        ensures { result.items ≡ self.log }
+    {
+        let PlainTables { history, .. } = self;
+        history
+    }
+
     pub(crate) fn reserve(&mut self, n: u32) -> Result<(), AllocError>
         ensures log { self.new.log ≡ self.old.log }
         ensures door { (self.new.caller ≡ self.old.caller) × (self.new.opened ≡ self.old.opened) }

@@ -1,8 +1,12 @@
 -- The place of a byte behind the end is that of the end.
 use Rattle.std.proofs.Common.{◌≡◌, ◌+◌, ◌∙◌, ℕ, List, inl, inr, sym, ap, arith, length, take}
-use Rattle.std.proofs.{Math.Nat.min-eq_left, Math.Nat.min_comm, lemmas.Bool.cases_lt, lemmas.List.take_all}
-use Rattle.std.specs.{List.after_last, Prelude.count_by, Prelude.min}
-use Rattle.hb_lex.specs.{Bytes.is_line_feed, Place.column_at, Place.line_at}
+use Rattle.std.proofs.Math.Nat.{min-eq_left, min_comm}
+use Rattle.std.proofs.lemmas.Bool.{cases_lt}
+use Rattle.std.proofs.lemmas.List.{take_all}
+use Rattle.std.specs.List.{after_last}
+use Rattle.std.specs.Prelude.{count_by, min}
+use Rattle.hb_lex.specs.Bytes.{is_line_feed}
+use Rattle.hb_lex.specs.Place.{column_at, line_at}
 
 take-within : (text : List ℕ) (at : ℕ) → take (min at (length text)) text ≡ take at text
 take-within text at = elim (cases_lt at (length text)) [

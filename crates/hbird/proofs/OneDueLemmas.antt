@@ -1,19 +1,18 @@
 -- What is due for a text that is refused is one.
 use Rattle.std.proofs.Common.{◌≡◌, inl, inr, ℕ, List, Option, Some, None, Bool, true, false, refl, sym, ap, ◌∙◌, arith, length, subst}
-use Rattle.std.proofs.lemmas.List.{length-map}
-use Rattle.std.specs.Prelude.{nat_le, is_none, ◌&&◌, if◌then◌else◌}
-use Rattle.std.specs.{Option.option_map, List.list_all}
-use Rattle.hb_lex.specs.declared.{faults.LexFail.LexFail, spans.Token.Token}
+use Rattle.std.specs.Prelude.{if◌then◌else◌}
+use Rattle.std.specs.List.{list_all}
+use Rattle.hb_lex.specs.declared.faults.LexFail.{LexFail}
+use Rattle.hb_lex.specs.declared.spans.Token.{Token}
 use Rattle.hb_lex.specs.Text.{HasFault, HasTokens}
 use Rattle.hb_build.specs.declared.faults.ParseFail.{ParseFail}
 use Rattle.hb_build.specs.Said.{Said, said_in}
-use Rattle.hb_types.specs.declared.{ids.NameId.NameId, ids.NodeId.NodeId}
-use Rattle.hb_tree.specs.{Table.Table, Tree.Tree, TreeAt.tree_at}
 use Rattle.hb_eval.specs.Told.{is_done}
-use Rattle.hb_parse.specs.Text.{IsFault, IsProgramOf, Says}
+use Rattle.hb_jobs.specs.Jobs.{Options}
+use Rattle.hb_parse.specs.Text.{IsFault, Says}
 use Rattle.hbird.specs.Answers.{IsOne, IsReadAs, IsRunOf, IsWhole}
 use Rattle.hbird.specs.Faults.{Fault, IsFirstFault, fault_line, lex_fault, parse_fault}
-use Rattle.hbird.specs.{Outcomes.Outcome, Outcomes.faulty, Reports.ComesTo, Reports.is_alone}
+use Rattle.hbird.specs.Outcomes.{Outcome, faulty}
 use Rattle.hbird.specs.declared.due.Ending.TheVariants.{Done, Stopped, TextRefused}
 
 -- a text says one program or has one first fault
@@ -40,51 +39,28 @@ one-fault one text a b (inr x) (inr y) =
     same-told parse_fault x.cause y.cause a b (one.parse_fault text _ _ _ first y.first) x.is_told y.is_told
 
 -- a program has none
-whole-fault : OneText → (text : List ℕ) (o : Outcome) (fault : Fault) → IsWhole text o → IsFirstFault text fault → ⊥
-whole-fault one text o fault whole (inl x) = one.lex_apart text _ _ whole.read x.first
-whole-fault one text o fault whole (inr x) =
+whole-fault : OneText → (options : Options) (text : List ℕ) (o : Outcome) (fault : Fault) → IsWhole options text o → IsFirstFault text fault → ⊥
+whole-fault one options text o fault whole (inl x) = one.lex_apart text _ _ whole.read x.first
+whole-fault one options text o fault whole (inr x) =
     let tokens = one.tokens text x.tokens whole.tokens x.read whole.read in
     one.parse_apart text whole.tokens (said_in whole.program) x.cause whole.says (subst (λ (z : List Token). IsFault text z x.cause) tokens x.first)
 
--- whether a program is alone is told by what it says
-abbrev alone_said : Said → Bool
-alone_said s = is_none s.setup && nat_le (length s.scripts) 1
-
-alone-said : (t : Table) → is_alone t ≡ alone_said (said_in t)
-alone-said t = rw (setup t.setup, length-map t.scripts script) refl
-  where
-    script : NameId × NodeId → ℕ × Tree
-    script s = (s.0.0, tree_at t s.1.0)
-
-    setup : (s : Option NodeId) → is_none (option_map (λ (b : NodeId). tree_at t b.0) s) ≡ is_none s
-    setup None = refl
-    setup (Some b) = refl
-
-comes-refused : (t u : Table) (x y : Bool) (len : ℕ) (a b : Outcome) → x ≡ y → a.ending ≡ TextRefused → ComesTo t x len a → ComesTo u y len b → a ≡ b
-comes-refused t u true y len a b same refused p q = absurd (report (list_all (λ r. is_done r.outcome) p.runs) (sym (ap (λ (x : Outcome). x.ending) p.same) ∙ refused))
+-- and it is not refused
+whole-not_refused : (options : Options) (text : List ℕ) (o : Outcome) → IsWhole options text o → o.ending ≡ TextRefused → ⊥
+whole-not_refused options text o whole refused = report (list_all (λ r. is_done r.outcome) whole.comes.runs) (sym (ap (λ (x : Outcome). x.ending) whole.comes.same) ∙ refused)
   where
     report : (b : Bool) → (if b then Done else Stopped) ≡ TextRefused → ⊥
     report true e = cc
     report false e = cc
-comes-refused t u false true len a b same refused p q = absurd cc
-comes-refused t u false false len a b same refused p q = p ∙ sym q
 
-one-whole : OneText → (text : List ℕ) (a b : Outcome) → a.ending ≡ TextRefused → IsWhole text a → IsWhole text b → a ≡ b
-one-whole one text a b refused x y =
-    let tokens = one.tokens text x.tokens y.tokens x.read y.read in
-    let says : IsProgramOf text y.tokens x.program = subst (λ (z : List Token). IsProgramOf text z x.program) tokens x.says in
-    let said = one.said text _ _ _ says y.says in
-    comes-refused x.program y.program _ _ (length text) a b (alone-said x.program ∙ ap alone_said said ∙ sym (alone-said y.program)) refused x.comes y.comes
-
-one-read : OneText → (text : List ℕ) (a b : Outcome) → a.ending ≡ TextRefused → IsReadAs text a → IsReadAs text b → a ≡ b
-one-read one text a b refused (inl x) (inl y) =
+one-read : OneText → (options : Options) (text : List ℕ) (a b : Outcome) → a.ending ≡ TextRefused → IsReadAs options text a → IsReadAs options text b → a ≡ b
+one-read one options text a b refused (inl x) (inl y) =
     x.same ∙ ap (λ (z : Fault). faulty (fault_line text z) (length text)) (one-fault one text x.fault y.fault x.first y.first) ∙ sym y.same
-one-read one text a b refused (inl x) (inr y) = absurd (whole-fault one text b x.fault y x.first)
-one-read one text a b refused (inr x) (inl y) = absurd (whole-fault one text a y.fault x y.first)
-one-read one text a b refused (inr x) (inr y) = one-whole one text a b refused x y
+one-read one options text a b refused (inl x) (inr y) = absurd (whole-fault one options text b x.fault y x.first)
+one-read one options text a b refused (inr x) y = absurd (whole-not_refused options text a x refused)
 
-pub one-due : OneText → (text : List ℕ) (a b : Outcome) → IsRunOf text a → IsRunOf text b → IsOne a b
-one-due one text a b (inl r) (inl s) = λ refused. r.1 ∙ sym s.1
-one-due one text a b (inl r) (inr s) = absurd (omega (arith, r.0, s.0))
-one-due one text a b (inr r) (inl s) = absurd (omega (arith, r.0, s.0))
-one-due one text a b (inr r) (inr s) = λ refused. one-read one text a b refused r.1 s.1
+pub one-due : OneText → (options : Options) (text : List ℕ) (a b : Outcome) → IsRunOf options text a → IsRunOf options text b → IsOne a b
+one-due one options text a b (inl r) (inl s) = λ refused. r.1 ∙ sym s.1
+one-due one options text a b (inl r) (inr s) = absurd (omega (arith, r.0, s.0))
+one-due one options text a b (inr r) (inl s) = absurd (omega (arith, r.0, s.0))
+one-due one options text a b (inr r) (inr s) = λ refused. one-read one options text a b refused r.1 s.1

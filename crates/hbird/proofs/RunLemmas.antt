@@ -21,17 +21,15 @@ use Rattle.hbird.specs.Faults.{Fault, IsFirstFault, fault_line, lex_fault, parse
 use Rattle.hbird.specs.Outcomes.{IsDue, IsDueBy, IsRefused, Outcome, faulty, status_of, too_long}
 use Rattle.hb_names.specs.Names.{Name}
 use Rattle.hb_tables.specs.declared.entry.Entry.{Entry}
-use Rattle.hb_tables.specs.declared.entry.TheConstants.{VERSIONS_MAX}
 use Rattle.hb_run.specs.Headline.{KeepsPromise, StopsInBodies}
-use Rattle.hb_run.specs.History.{IsHistory}
+use Rattle.hb_jobs.specs.Jobs.{Options, Run, Wanted}
+use Rattle.hb_turns.specs.Players.{IsOrdered}
 use Rattle.hb_report.specs.Report.{report_of}
-use Rattle.hbird.specs.Reports.{ComesTo, IsReported, ending_of, is_alone, reported}
+use Rattle.hbird.specs.Reports.{IsInOrder, IsReported, ending_of, order_or, order_or_none, reported, traced}
 use Rattle.hbird.specs.declared.due.Due.{Due}
 use Rattle.hbird.specs.declared.due.Ending.{Ending}
-use Rattle.hbird.specs.declared.jobs.Job.{Job}
-use Rattle.hbird.specs.declared.jobs.Job.TheVariants as jobs
 use Rattle.hbird.specs.declared.due.Ending.TheVariants.{Done, Stopped, TextRefused, WordsRefused}
-use Rattle.hbird.specs.declared.top.TheConstants.{LIMIT, STEPS}
+use Rattle.hbird.specs.declared.top.TheConstants.{LIMIT}
 
 -- a report never ends as refused words do
 ending-no_refusal : (runs : List Told) → ending_of runs ≢ WordsRefused
@@ -41,81 +39,77 @@ ending-no_refusal runs = go (list_all (λ r. is_done r.outcome) runs)
     go true = λ e. cc
     go false = λ e. cc
 
-comes-no_refusal : (t : Table) (alone : Bool) (len : ℕ) (o : Outcome) → ComesTo t alone len o → o.ending ≢ WordsRefused
-comes-no_refusal t true len o h = λ e. ending-no_refusal h.runs (sym (ap (λ (x : Outcome). x.ending) h.same) ∙ e)
-comes-no_refusal t false len o h = λ e. let same : o.ending ≡ TextRefused = ap (λ (x : Outcome). x.ending) h in cc
+read-no_refusal : (options : Options) (text : List ℕ) (o : Outcome) → IsReadAs options text o → o.ending ≢ WordsRefused
+read-no_refusal options text o (inl h) = λ e. let same : o.ending ≡ TextRefused = ap (λ (x : Outcome). x.ending) h.same in cc
+read-no_refusal options text o (inr h) = λ e. ending-no_refusal h.comes.runs (sym (ap (λ (x : Outcome). x.ending) h.comes.same) ∙ e)
 
-read-no_refusal : (text : List ℕ) (o : Outcome) → IsReadAs text o → o.ending ≢ WordsRefused
-read-no_refusal text o (inl h) = λ e. let same : o.ending ≡ TextRefused = ap (λ (x : Outcome). x.ending) h.same in cc
-read-no_refusal text o (inr h) = comes-no_refusal h.program (is_alone h.program) (length text) o h.comes
-
-pub run-all : (a b : Option (List ℕ)) (text : List ℕ) (o : Outcome) → TakesAll a b LIMIT text → IsReadAs text o → IsRunOutcome a o
-run-all None b text o h due = read-no_refusal text o due
-run-all (Some x) None text o h due = absurd h.taken
-run-all (Some x) (Some y) text o h due =
+run-all : (options : Options) (a b : Option (List ℕ)) (text : List ℕ) (o : Outcome) → TakesAll a b LIMIT text → IsReadAs options text o → IsRunOutcome options a o
+run-all options None b text o h due = read-no_refusal options text o due
+run-all options (Some x) None text o h due = absurd h.taken
+run-all options (Some x) (Some y) text o h due =
     let same : x ≡ text = h.taken ∙ ap (λ rest. text ++ rest) h.end ∙ append-nil text in
-    subst (λ t. IsRunOf t o) (sym same) (inr (h.within, due))
+    subst (λ t. IsRunOf options t o) (sym same) (inr (h.within, due))
 
 -- what is due for a text within the limit is due for the source that it was read from
-pub run-within : {E : Type 0} (a b : Option (List ℕ)) (text kept : List ℕ) (r : Result Due E) → text ≡ kept → TakesAll a b LIMIT kept
-    → IfOk r (λ due. (o : Outcome) × IsReadAs text o × IsDue due o.ending o.text × (o.takes ≡ length text))
-    → IfOk r (λ due. (o : Outcome) × IsRunOutcome a o × IsDue due o.ending o.text × TakesCount a b o.takes)
-run-within a b text kept (Err e) same h is = tt
-run-within a b text kept (Ok due) same h (o, of, is, takes) =
+pub run-within : {E : Type 0} (options : Options) (a b : Option (List ℕ)) (text kept : List ℕ) (r : Result Due E) → text ≡ kept → TakesAll a b LIMIT kept
+    → IfOk r (λ due. (o : Outcome) × IsReadAs options text o × IsDue due o.ending o.text × (o.takes ≡ length text))
+    → IfOk r (λ due. (o : Outcome) × IsRunOutcome options a o × IsDue due o.ending o.text × TakesCount a b o.takes)
+run-within options a b text kept (Err e) same h is = tt
+run-within options a b text kept (Ok due) same h (o, of, is, takes) =
     let all : TakesAll a b LIMIT text = subst (TakesAll a b LIMIT) (sym same) h in
-    (o, run-all a b text o all of, is, (text, all.taken, sym takes))
+    (o, run-all options a b text o all of, is, (text, all.taken, sym takes))
 
-pub run-past : (a b : Option (List ℕ)) → TakesCount a b (LIMIT + 1) → IsRunOutcome a (too_long LIMIT)
-run-past None b h = λ e. cc
-run-past (Some x) None (bytes, taken, size) = absurd taken
-run-past (Some x) (Some y) (bytes, taken, size) =
+pub run-past : (options : Options) (a b : Option (List ℕ)) → TakesCount a b (LIMIT + 1) → IsRunOutcome options a (too_long LIMIT)
+run-past options None b h = λ e. cc
+run-past options (Some x) None (bytes, taken, size) = absurd taken
+run-past options (Some x) (Some y) (bytes, taken, size) =
     let long : length x ≡ length bytes + length y = ap length taken ∙ length-append bytes y in
     inl (omega (arith, long, size), refl)
 
 -- what is due for a text that is a program, and for one that has a fault
-pub text-whole : {E : Type 0} (text : List ℕ) (tokens : List Token) (t : Table) (r : Result Due E) → HasTokens text tokens → IsProgramOf text tokens t → IsProgram t
-    → IfOk r (λ due. IsDueBy (ComesTo t (is_alone t) (length text)) (length text) due)
-    → IfOk r (λ due. (o : Outcome) × IsReadAs text o × IsDue due o.ending o.text × (o.takes ≡ length text))
-text-whole text tokens t (Err e) read says is comes = tt
-text-whole text tokens t (Ok due) read says is (o, comes, due_is, takes) =
-    let whole : IsWhole text o = record { tokens = tokens; read = read; program = t; says = says; is = is; comes = comes } in
+pub text-whole : {E : Type 0} (options : Options) (text : List ℕ) (tokens : List Token) (t : Table) (r : Result Due E) → HasTokens text tokens → IsProgramOf text tokens t → IsProgram t
+    → IfOk r (λ due. IsDueBy (IsReported t options (length text)) (length text) due)
+    → IfOk r (λ due. (o : Outcome) × IsReadAs options text o × IsDue due o.ending o.text × (o.takes ≡ length text))
+text-whole options text tokens t (Err e) read says is comes = tt
+text-whole options text tokens t (Ok due) read says is (o, comes, due_is, takes) =
+    let whole : IsWhole options text o = record { tokens = tokens; read = read; program = t; says = says; is = is; comes = comes } in
     (o, inr whole, due_is, takes)
 
-text-faulty : (text : List ℕ) (fault : Fault) (due : Due) → IsFirstFault text fault → IsDue due TextRefused (fault_line text fault)
-    → (o : Outcome) × IsReadAs text o × IsDue due o.ending o.text × (o.takes ≡ length text)
-text-faulty text fault due first is =
+text-faulty : (options : Options) (text : List ℕ) (fault : Fault) (due : Due) → IsFirstFault text fault → IsDue due TextRefused (fault_line text fault)
+    → (o : Outcome) × IsReadAs options text o × IsDue due o.ending o.text × (o.takes ≡ length text)
+text-faulty options text fault due first is =
     let told : IsFaulty text (faulty (fault_line text fault) (length text)) = record { fault = fault; first = first; same = refl } in
     (faulty (fault_line text fault) (length text), inl told, is, refl)
 
-told-faulty : {E : Type 0} (text : List ℕ) (found : Option Fault) (r : Result Due E) → ((fault : Fault) → found ≡ Some fault → IsFirstFault text fault)
+told-faulty : {E : Type 0} (options : Options) (text : List ℕ) (found : Option Fault) (r : Result Due E) → ((fault : Fault) → found ≡ Some fault → IsFirstFault text fault)
     → IfOk r (λ due. IsRefused due text found)
-    → IfOk r (λ due. (o : Outcome) × IsReadAs text o × IsDue due o.ending o.text × (o.takes ≡ length text))
-told-faulty text found (Err e) first is = tt
-told-faulty text None (Ok due) first is = absurd is
-told-faulty text (Some fault) (Ok due) first is = text-faulty text fault due (first fault refl) is
+    → IfOk r (λ due. (o : Outcome) × IsReadAs options text o × IsDue due o.ending o.text × (o.takes ≡ length text))
+told-faulty options text found (Err e) first is = tt
+told-faulty options text None (Ok due) first is = absurd is
+told-faulty options text (Some fault) (Ok due) first is = text-faulty options text fault due (first fault refl) is
 
-pub text-lex_fault : {E : Type 0} (text : List ℕ) (fail : LexFail) (found : Option Fault) (r : Result Due E) → (fail ≡ lex.NoMemory) ⊎ HasFault text fail
+pub text-lex_fault : {E : Type 0} (options : Options) (text : List ℕ) (fail : LexFail) (found : Option Fault) (r : Result Due E) → (fail ≡ lex.NoMemory) ⊎ HasFault text fail
     → found ≡ lex_fault fail → IfOk r (λ due. IsRefused due text found)
-    → IfOk r (λ due. (o : Outcome) × IsReadAs text o × IsDue due o.ending o.text × (o.takes ≡ length text))
-text-lex_fault text fail found r (inl memory) told is =
-    told-faulty text found r (λ fault e. let some : None ≡ Some fault = sym (ap lex_fault memory) ∙ sym told ∙ e in absurd cc) is
-text-lex_fault text fail found r (inr first) told is =
-    told-faulty text found r (λ fault e. inl (record { cause = fail; first = first; is_told = sym told ∙ e })) is
+    → IfOk r (λ due. (o : Outcome) × IsReadAs options text o × IsDue due o.ending o.text × (o.takes ≡ length text))
+text-lex_fault options text fail found r (inl memory) told is =
+    told-faulty options text found r (λ fault e. let some : None ≡ Some fault = sym (ap lex_fault memory) ∙ sym told ∙ e in absurd cc) is
+text-lex_fault options text fail found r (inr first) told is =
+    told-faulty options text found r (λ fault e. inl (record { cause = fail; first = first; is_told = sym told ∙ e })) is
 
-pub text-parse_fault : {E : Type 0} (text : List ℕ) (tokens : List Token) (fail : ParseFail) (found : Option Fault) (r : Result Due E) → HasTokens text tokens
+pub text-parse_fault : {E : Type 0} (options : Options) (text : List ℕ) (tokens : List Token) (fail : ParseFail) (found : Option Fault) (r : Result Due E) → HasTokens text tokens
     → IsFault text tokens fail ⊎ (fail ≡ parse.NoMemory)
     → found ≡ parse_fault fail → IfOk r (λ due. IsRefused due text found)
-    → IfOk r (λ due. (o : Outcome) × IsReadAs text o × IsDue due o.ending o.text × (o.takes ≡ length text))
-text-parse_fault text tokens fail found r read (inl first) told is =
-    told-faulty text found r (λ fault e. inr (record { tokens = tokens; read = read; cause = fail; first = first; is_told = sym told ∙ e })) is
-text-parse_fault text tokens fail found r read (inr memory) told is =
-    told-faulty text found r (λ fault e. let some : None ≡ Some fault = sym (ap parse_fault memory) ∙ sym told ∙ e in absurd cc) is
+    → IfOk r (λ due. (o : Outcome) × IsReadAs options text o × IsDue due o.ending o.text × (o.takes ≡ length text))
+text-parse_fault options text tokens fail found r read (inl first) told is =
+    told-faulty options text found r (λ fault e. inr (record { tokens = tokens; read = read; cause = fail; first = first; is_told = sym told ∙ e })) is
+text-parse_fault options text tokens fail found r read (inr memory) told is =
+    told-faulty options text found r (λ fault e. let some : None ≡ Some fault = sym (ap parse_fault memory) ∙ sym told ∙ e in absurd cc) is
 
 -- what is due for a job is never that of refused words
-run-no_refusal : (left : Option (List ℕ)) (o : Outcome) → IsRunOutcome left o → o.ending ≢ WordsRefused
-run-no_refusal None o h = h
-run-no_refusal (Some text) o (inl h) = λ e. let same : o.ending ≡ TextRefused = ap (λ (x : Outcome). x.ending) h.1 in cc
-run-no_refusal (Some text) o (inr h) = read-no_refusal text o h.1
+run-no_refusal : (options : Options) (left : Option (List ℕ)) (o : Outcome) → IsRunOutcome options left o → o.ending ≢ WordsRefused
+run-no_refusal options None o h = h
+run-no_refusal options (Some text) o (inl h) = λ e. let same : o.ending ≡ TextRefused = ap (λ (x : Outcome). x.ending) h.1 in cc
+run-no_refusal options (Some text) o (inr h) = read-no_refusal options text o h.1
 
 status_two : (e : Ending) → status_of e ≡ 2 → e ≡ WordsRefused
 status_two Done h = absurd (omega arith)
@@ -129,12 +123,12 @@ status_other Stopped n a b h = omega arith
 status_other TextRefused n a b h = omega arith
 status_other WordsRefused n a b h = omega arith
 
-refused-words : (job : Option Job) (left : Option (List ℕ)) (o : Outcome) → IsDueFor job left o → o.ending ≡ WordsRefused → IsNone job
+refused-words : (job : Option Wanted) (left : Option (List ℕ)) (o : Outcome) → IsDueFor job left o → o.ending ≡ WordsRefused → IsNone job
 refused-words None left o h e = search rules
-refused-words (Some jobs.Run) left o h e = absurd (run-no_refusal left o h e)
+refused-words (Some (Run options)) left o h e = absurd (run-no_refusal options left o h e)
 
 -- an outcome that is due and came is an answer
-pub answers-came : (asked job : Option Job) (old new : Ends) (o : Outcome) (answer : ℕ) → asked ≡ job → IsDueFor asked old.left o
+pub answers-came : (asked job : Option Wanted) (old new : Ends) (o : Outcome) (answer : ℕ) → asked ≡ job → IsDueFor asked old.left o
     → CameTo o old new answer → (IsNone asked → Keeps old.left new.left) → old.read_faults ≤ new.read_faults → old.write_faults ≤ new.write_faults
     → Answers job old new answer
 answers-came asked job old new o answer same due_asked came kept read write =
@@ -150,13 +144,23 @@ answers-came asked job old new o answer same due_asked came kept read write =
       write_count = write;
     }
   where
-    unread : (j : Option Job) → (IsNone j → Keeps old.left new.left) → (Reads j → ⊥) → Keeps old.left new.left
+    unread : (j : Option Wanted) → (IsNone j → Keeps old.left new.left) → (Reads j → ⊥) → Keeps old.left new.left
     unread None keeps none = keeps (search rules)
-    unread (Some jobs.Run) keeps none = absurd (none tt)
+    unread (Some (Run options)) keeps none = absurd (none tt)
 
--- the report of these runs
-pub due-reported : (t : Table) (len : ℕ) (names : List Name) (log : List Entry) (runs : List Told) (ending : Ending) (text : List ℕ)
-    → IsHistory t VERSIONS_MAX STEPS names log runs → KeepsPromise t names log runs → AllByRecursion (StopsInBodies t) runs → ending ≡ ending_of runs → text ≡ report_of t runs
-    → (o : Outcome) × IsReported t len o × (ending ≡ o.ending) × (text ≡ o.text) × (o.takes ≡ len)
-due-reported t len names log runs ending text history promise bodies e f =
-    (reported t runs len, record { names = names; log = log; runs = runs; history = history; promise = promise; bodies = bodies; same = refl }, e, f, refl)
+-- the report of these runs, and their trace where it is wanted
+pub due-reported : (t : Table) (options : Options) (len : ℕ) (names : List Name) (log : List Entry) (runs : List Told) (ending : Ending) (text : List ℕ)
+    → IsOrdered t options.changes options.steps (order_or_none options) names log runs → KeepsPromise t names log runs → AllByRecursion (StopsInBodies t) runs
+    → ending ≡ ending_of runs → text ≡ report_of t runs ++ traced t options names log
+    → (o : Outcome) × IsReported t options len o × (ending ≡ o.ending) × (text ≡ o.text) × (o.takes ≡ len)
+due-reported t options len names log runs ending text ordered promise bodies e f = (
+  reported t options names log runs len,
+  record { names = names; log = log; runs = runs; history = ordered.history; in_order = in_order options.order ordered; promise = promise; bodies = bodies; same = refl },
+  e,
+  f,
+  refl,
+)
+  where
+    in_order : (order : Option (List ℕ)) → IsOrdered t options.changes options.steps (order_or order) names log runs → IsInOrder t options order names log runs
+    in_order None is = tt
+    in_order (Some order) is = is

@@ -1,12 +1,15 @@
 -- The first fault of a text, and its line.
 use Rattle.std.specs.Prelude.{◌≡◌, ◌⊎◌, ℕ, List, ◌++◌, Option, Some, None, codes, decimal}
-use Rattle.hb_lex.specs.declared.{faults.LexFail.LexFail, spans.Token.Token}
+use Rattle.hb_lex.specs.declared.faults.LexFail.{LexFail}
 use Rattle.hb_lex.specs.declared.faults.LexFail.TheVariants as lex
-use Rattle.hb_lex.specs.{Place.column_at, Place.line_at, Text.HasFault, Text.HasTokens}
+use Rattle.hb_lex.specs.declared.spans.Token.{Token}
+use Rattle.hb_lex.specs.Place.{column_at, line_at}
+use Rattle.hb_lex.specs.Text.{HasFault, HasTokens}
 use Rattle.hb_grammar.specs.declared.wanted.Wanted.{Wanted}
 use Rattle.hb_grammar.specs.declared.wanted.Wanted.TheVariants as want
-use Rattle.hb_build.specs.declared.{faults.Limit.Limit, faults.ParseFail.ParseFail}
+use Rattle.hb_build.specs.declared.faults.Limit.{Limit}
 use Rattle.hb_build.specs.declared.faults.Limit.TheVariants as limit
+use Rattle.hb_build.specs.declared.faults.ParseFail.{ParseFail}
 use Rattle.hb_build.specs.declared.faults.ParseFail.TheVariants as parse
 use Rattle.hb_parse.specs.Text.{IsFault}
 

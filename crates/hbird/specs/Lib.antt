@@ -1,5 +1,4 @@
 -- What the program answers: by its words, and by what the bytes read say.
-pub mod Jobs
 pub mod Outcomes
 pub mod Faults
 pub mod Reports

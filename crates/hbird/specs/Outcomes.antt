@@ -1,7 +1,9 @@
 -- What a job comes to: how it ends, the text due, and how many bytes of the source it takes.
 use Rattle.std.specs.Prelude.{◌≡◌, ℕ, ◌+◌, List, Option, Some, None, codes}
-use Rattle.hbird.specs.declared.{due.Ending.Ending, due.Ending.TheVariants.Done, due.Ending.TheVariants.Stopped, due.Ending.TheVariants.TextRefused}
-use Rattle.hbird.specs.declared.{due.Ending.TheVariants.WordsRefused, due.Due.Due, faults.Fault.Fault as Found}
+use Rattle.hbird.specs.declared.due.Ending.{Ending}
+use Rattle.hbird.specs.declared.due.Ending.TheVariants.{Done, Stopped, TextRefused, WordsRefused}
+use Rattle.hbird.specs.declared.due.Due.{Due}
+use Rattle.hbird.specs.declared.faults.Fault.{Fault as Found}
 use Rattle.hbird.specs.Faults.{Fault, fault_line}
 
 -- the exit status

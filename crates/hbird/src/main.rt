@@ -3,7 +3,6 @@
 
 mod due;
 mod faults;
-mod jobs;
 mod top;
 
 use hb_io::{RealSink, RealSource};

@@ -1,0 +1,5 @@
+pub mod CommandLine
+pub mod Given
+pub mod Numbers
+pub mod Orders
+pub mod Jobs

@@ -1,0 +1,7 @@
+mod PlayingLemmas
+mod PlayerLemmas
+mod OrderLemmas
+mod GoneLemmas
+mod FinishLemmas
+mod RunLemmas
+mod TagLemmas
