@@ -2,7 +2,7 @@
 use Rattle.std.proofs.Common.{◌≡◌, ℕ, List, [], ◌++◌, sym, ap, ◌∙◌, subst, append_assoc}
 use Rattle.std.proofs.lemmas.List.{append_cancel_left}
 use mathlib.Core.List.{IsPrefix}
-use Rattle.std.specs.Prelude.{Result, Ok, Err, IfErr, IfOk, IsErrAnd, OnOk}
+use Rattle.std.specs.Prelude.{Option, Result, Ok, Err, IfErr, IfOk, IsErrAnd, OnOk}
 use Rattle.hb_types.specs.declared.ids.CallNo.{CallNo}
 use Rattle.hb_names.specs.Names.{Name, with_name}
 use Rattle.hb_tables.specs.declared.entry.Act.{Act}
@@ -64,8 +64,8 @@ kept_enters a names old mid new e well (Ok x) done undone h = subst (λ (y : Ent
 kept_enters a names old mid new e well (Err x) done undone h = subst (λ (y : CallFail). Enters a names old new (Err y)) (sym undone.0) (undone_none a.door.caller a.q mid new e well undone.1)
 
 -- what is kept at the end, of the same entries and answers
-pub own_moved : (g : Given) (known asked : List Name) (a b : List Entry) (x y : List Answer) (r : Result Ended CallFail) → a ≡ b → x ≡ y → IsOwnAtEnd g known asked a x r → IsOwnAtEnd g known asked b y r
-own_moved g known asked a b x y r e f own = subst (λ (l : List Answer). IsOwnAtEnd g known asked b l r) f (subst (λ (l : List Entry). IsOwnAtEnd g known asked l x r) e own)
+pub own_moved : (g : Given) (past : Option (List Act)) (known asked : List Name) (a b : List Entry) (x y : List Answer) (r : Result Ended CallFail) → a ≡ b → x ≡ y → IsOwnAtEnd g past known asked a x r → IsOwnAtEnd g past known asked b y r
+own_moved g past known asked a b x y r e f own = subst (λ (l : List Answer). IsOwnAtEnd g past known asked b l r) f (subst (λ (l : List Entry). IsOwnAtEnd g past known asked l x r) e own)
 
 -- the caller was told of the end
 pub told_back : (r : Result Entered CallFail) (cause : CallFail) → IsErrAnd r (λ x. x ≡ cause) → IsTold r → IsTold {X = Ended} (Err cause)

@@ -29,16 +29,16 @@ use Rattle.hb_call.specs.Held.{HasCall, Holds, frees, stands}
 use Rattle.hb_tree.specs.Table.{Table}
 use Rattle.hb_call.specs.Calling.{Begun, Given, Grew, Moment, Went, fits_of}
 use Rattle.hb_call.specs.Alike.{went_on}
-use Rattle.hb_call.specs.GrowthLaws.{grown_on, prefix_itself, with_rules}
+use Rattle.hb_call.specs.GrowthLaws.{each_on, grown_on, prefix_itself, with_rules}
 use Rattle.hb_call.proofs.StepLemmas.{at, went_frees}
 use Rattle.hb_call.specs.Growth.{EachNew}
-use Rattle.hb_call.specs.Rules.{FitsRules}
+use Rattle.hb_call.specs.Rules.{EntersBy, FitsRules}
 use Rattle.hb_call.proofs.GrowthLemmas.{grows_frees}
 use Rattle.hb_tables.specs.History.{IsLegal}
 use Rattle.hb_call.specs.Deciding.{Decided, IsResting}
 use Rattle.hb_call.specs.OwnCache.{IsOwnCache}
 use Rattle.hb_call.specs.OwnLaws.{own_stays}
-use Rattle.hb_call.proofs.OwnGoingLemmas.{frees_leave}
+use Rattle.hb_call.proofs.OwnGoingLemmas.{frees_leave, frees_ways}
 use Rattle.hb_call.specs.declared.answers.Answer.{Answer}
 use Rattle.hb_call.specs.declared.frame.Frame.{Frame}
 use Rattle.hb_deriv.specs.declared.raw.Derivation.{Derivation}
@@ -104,18 +104,18 @@ module _ (g h : Given) (same : g ≡ h) (f : Frame) (q : f.q ≡ h.q) (key : f.k
       subst (λ (x : Given). (f.q ≡ x.q) × (f.key ≡ x.key) × IsFinished x names old new v (Some f.body) f.held.items) (sym same)
       (q, key, record { decided = subst (λ (b : BodySite). Decided h names old new v (Some b)) (sym is) decided; holds = subst (λ (l : List KeyId). Holds h.door.caller h.q.0 l new) (sym keys) holds })
 
-  pub framed_resting : (known asked : List Name) (new : List Entry) (answers : List Answer) (d : Derivation) → f.body ≡ d.body → IsResting h known asked new held answers d → (f.q ≡ g.q) × (f.key ≡ g.key) × (f.body ≡ d.body) × IsResting g known asked new f.held.items answers d
-  framed_resting known asked new answers d is rests =
-      subst (λ (x : Given). (f.q ≡ x.q) × (f.key ≡ x.key) × (f.body ≡ d.body) × IsResting x known asked new f.held.items answers d) (sym same)
-      (q, key, is, subst (λ (l : List KeyId). IsResting h known asked new l answers d) (sym keys) rests)
+  pub framed_resting : (past : Option (List Act)) (known asked : List Name) (new : List Entry) (answers : List Answer) (d : Derivation) → f.body ≡ d.body → IsResting h past known asked new held answers d → (f.q ≡ g.q) × (f.key ≡ g.key) × (f.body ≡ d.body) × IsResting g past known asked new f.held.items answers d
+  framed_resting past known asked new answers d is rests =
+      subst (λ (x : Given). (f.q ≡ x.q) × (f.key ≡ x.key) × (f.body ≡ d.body) × IsResting x past known asked new f.held.items answers d) (sym same)
+      (q, key, is, subst (λ (l : List KeyId). IsResting h past known asked new l answers d) (sym keys) rests)
 
 -- it holds its keys behind its Call
 pub framed_well : (g : Given) (names : List Name) (old new : List Entry) (v : Verdict) (f : Frame) → (f.q ≡ g.q) × (f.key ≡ g.key) × IsFinished g names old new v (Some f.body) f.held.items → (f.q ≡ g.q) × Holds g.door.caller g.q.0 f.held.items new × HasCall g.door.caller g.q.0 new
 framed_well g names old new v f h = (h.0, h.2.holds, called_of g names old new v (Some f.body) h.2.decided)
 
 -- what is kept stays so for a call that is the same as before
-pub same_own : (g h : Given) (known asked : List Name) (new : List Entry) → g ≡ h → IsOwnCache h.t known asked h.door.caller new h.cache → IsOwnCache g.t known asked g.door.caller new g.cache
-same_own g h known asked new same own = subst (λ (x : Given). IsOwnCache x.t known asked x.door.caller new x.cache) (sym same) own
+pub same_own : (g h : Given) (past : Option (List Act)) (known asked : List Name) (new : List Entry) → g ≡ h → IsOwnCache h.t known asked h.door.caller past new h.cache → IsOwnCache g.t known asked g.door.caller past new g.cache
+same_own g h past known asked new same own = subst (λ (x : Given). IsOwnCache x.t known asked x.door.caller past new x.cache) (sym same) own
 
 -- what a call comes to that gave back what it held
 module _ (g h : Given) (same : g ≡ h) (was : Moment) (known asked : List Name) (mid new : List Entry) (held : List KeyId) (kept : IsPrefix mid new) (back : acts h.door.caller new ≡ acts h.door.caller mid ++ frees h.q held) where
@@ -127,8 +127,11 @@ module _ (g h : Given) (same : g ≡ h) (was : Moment) (known asked : List Name)
       let last : Grew g (at known asked mid) (at known asked new) = subst (λ (x : Given). Grew x (at known asked mid) (at known asked new)) (sym same) (with_rules h.t h.door.caller known asked asked mid new (grows_frees h.door.caller known asked h.q held mid new kept back) rules) in
       grown_on g.t g.door.caller known known was.asked asked asked was.log mid new grew last (prefix_itself known)
 
-  pub back_own : IsOwnCache h.t known asked h.door.caller mid h.cache → IsOwnCache g.t known asked g.door.caller new g.cache
-  back_own own = same_own g h known asked new same (own_stays h.t known known asked asked h.door.caller mid new h.cache (prefix_itself known) (prefix_itself asked) own (frees h.q held) kept back (frees_leave h.q held))
+  pub back_ways : (past : List Act) → EachNew (EntersBy g.door.caller past) g.door.caller was.log mid → EachNew (EntersBy g.door.caller past) g.door.caller was.log new
+  back_ways past ways = each_on (EntersBy g.door.caller past) g.door.caller was.log mid new kept ways (subst (λ (x : Given). EachNew (EntersBy x.door.caller past) x.door.caller mid new) (sym same) (frees_ways h.door.caller past h.q held mid new back))
+
+  pub back_own : (past : Option (List Act)) → IsOwnCache h.t known asked h.door.caller past mid h.cache → IsOwnCache g.t known asked g.door.caller past new g.cache
+  back_own past own = same_own g h past known asked new same (own_stays h.t known known asked asked h.door.caller past mid new h.cache (prefix_itself known) (prefix_itself asked) own (frees h.q held) kept back (frees_leave h.q held))
 
 pub none_left : (g h : Given) (mid new : List Entry) (held : List KeyId) → g ≡ h → Holds h.door.caller h.q.0 held mid → acts h.door.caller new ≡ acts h.door.caller mid ++ frees h.q held → stands g.door.caller g.q.0 new ≡ []
 none_left g h mid new held same holds freed = ap (λ (x : Given). stands x.door.caller x.q.0 new) same ∙ none_stand h.door.caller h.q held mid new holds freed

@@ -115,7 +115,7 @@ full_frees t names limit c q key others mid new full one legal is =
         let low = legal_prefix limit (mid ++ from.0) new (to.0, ap (λ w. w ++ to.0) from.1 ∙ to.1) legal in
         let here = subst (IsFullRightly t names c q key) from.1 (full_later t names limit c q key mid from.0 low none one full) in
         let act : Free q key ≡ a = cc e in
-        subst (FitsRules t names c before) act (record { row = tt; hold = tt; free = inr (inr (inl here)); whole = tt; named = tt; entered = tt })
+        subst (FitsRules t names c before) act (record { row = tt; hold = tt; free = inr (inr (inl here)); whole = tt; named = tt })
     go (x ∷ xs) ys a before e from to more =
         let act : Free q key ≡ x = cc e in let rest : frees q others ≡ xs ++ a ∷ ys = cc e in
         let cut = acts_cut c from.0 [] (Free q key) xs (more ∙ ap (λ y. y ∷ xs) (sym act)) in
@@ -127,7 +127,7 @@ full_frees t names limit c q key others mid new full one legal is =
         behind : (q : CallNo) (others : List KeyId) (xs ys : List Act) (a : Act) (before : List Entry) → frees q others ≡ xs ++ a ∷ ys → GivesUp c q before → FitsRules t names c before a
         behind q [] [] ys a before e gives = absurd (cc e)
         behind q [] (x ∷ xs) ys a before e gives = absurd (cc e)
-        behind q (j ∷ others) [] ys a before e gives = let act : Free q j ≡ a = cc e in subst (FitsRules t names c before) act (record { row = tt; hold = tt; free = inr (inr (inr gives)); whole = tt; named = tt; entered = tt })
+        behind q (j ∷ others) [] ys a before e gives = let act : Free q j ≡ a = cc e in subst (FitsRules t names c before) act (record { row = tt; hold = tt; free = inr (inr (inr gives)); whole = tt; named = tt })
         behind q (j ∷ others) (x ∷ xs) ys a before e gives = behind q others xs ys a before (cc e) gives
 
 -- a call holds its own key

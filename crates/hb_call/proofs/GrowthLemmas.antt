@@ -162,7 +162,7 @@ each_frees F c q keys old new is fits = each_made F c old new (frees q keys) is 
 
 -- what a call gives back behind its Call fits the rules
 pub called_fits : (t : Table) (c : ℕ) (known : List Name) (q : CallNo) (keys : List KeyId) (old new : List Entry) → HasCall c q.0 old → acts c new ≡ acts c old ++ frees q keys → EachNew (FitsRules t known c) c old new
-called_fits t c known q keys old new called is = each_frees (FitsRules t known c) c q keys old new is (λ before key from. record { row = tt; hold = tt; free = inl (has_call_on c q.0 old before called from); whole = tt; named = tt; entered = tt })
+called_fits t c known q keys old new called is = each_frees (FitsRules t known c) c q keys old new is (λ before key from. record { row = tt; hold = tt; free = inl (has_call_on c q.0 old before called from); whole = tt; named = tt })
 
 pub grown_frees : (t : Table) (c : ℕ) (known asked : List Name) (q : CallNo) (keys : List KeyId) (old new : List Entry) → HasCall c q.0 old → IsPrefix old new → acts c new ≡ acts c old ++ frees q keys → Grown t c known asked asked old new
 grown_frees t c known asked q keys old new called kept is =

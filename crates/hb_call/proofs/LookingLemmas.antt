@@ -171,7 +171,7 @@ module _ (g : Given) (was is : Moment) (site : Option BodySite) (old answers : L
   c = g.door.caller
 
   pub rules_since : FitsSince g was is
-  rules_since here later e there from own_act = subst (FitsRules g.t is.known c here) (sym held.is) (record { row = tt; hold = inr (record { look = (held.answer.class.0, held.answer.name.0); next = next; is = held.named }); free = tt; whole = inr held.whole; named = place-within is.known (name_of g.t (held.answer.class.0, held.answer.name.0)) held.answer.key.0 held.named; entered = tt })
+  rules_since here later e there from own_act = subst (FitsRules g.t is.known c here) (sym held.is) (record { row = tt; hold = inr (record { look = (held.answer.class.0, held.answer.name.0); next = next; is = held.named }); free = tt; whole = inr held.whole; named = place-within is.known (name_of g.t (held.answer.class.0, held.answer.name.0)) held.answer.key.0 held.named })
     where
       held : HoldsAnswer g.t is.known c g.q answers here e.act
       held = asking.holds here later e there from own_act

@@ -24,7 +24,7 @@ use Rattle.hb_tables.proofs.FrontLemmas.{adds_act}
 use Rattle.hb_tables.proofs.StandingLemmas.{standing_append}
 use Rattle.hb_call.specs.Held.{Holds, stands}
 use Rattle.hb_call.specs.GrowthLaws.{prefix_itself}
-use Rattle.hb_call.specs.OwnCache.{AreUses, IsOwnCache}
+use Rattle.hb_call.specs.OwnCache.{AreUses, IsTrueCache}
 use Rattle.hb_call.proofs.GrowthLemmas.{asked_on}
 use Rattle.hb_call.proofs.OwnGoingLemmas.{asked_live}
 use Rattle.hb_call.specs.Calling.{Given, Goes, IsAmong, IsAskedFor, IsCalling, Moment, has_key}
@@ -85,7 +85,7 @@ asked_as g was kept key uses k (inl e) = subst (IsAskedFor was.known was.asked) 
 asked_as g was kept key uses k (inr among) = among_asked g.t was.known was.asked was.log k kept.derivation.uses.items kept.counts.items uses among
 
 -- Where all that a call holds are its own key and those of a kept check, it asked for nothing new, if it gave nothing back.
-pub asks_no_more : (g : Given) (was mid : Moment) (end : List Entry) (held : List KeyId) (a : Act) → Goes g was mid → Adds g.door.caller mid.log end a → IsOwnCache g.t was.known was.asked g.door.caller was.log g.cache → IsAskedFor was.known was.asked g.key.0
+pub asks_no_more : (g : Given) (was mid : Moment) (end : List Entry) (held : List KeyId) (a : Act) → Goes g was mid → Adds g.door.caller mid.log end a → IsTrueCache g.t was.known was.asked g.door.caller was.log g.cache → IsAskedFor was.known was.asked g.key.0
     → Holds g.door.caller g.q.0 held mid.log → AreOfKept g.key g.cache held → (made : List Act) → acts g.door.caller end ≡ acts g.door.caller was.log ++ made → StaysLive g.q.0 made → mid.asked ≡ was.asked
 asks_no_more g was mid end held a goes adds own key holds of made is live =
     let c = g.door.caller in let l = goes.grew.made in
@@ -99,7 +99,7 @@ asks_no_more g was mid end held a goes adds own key holds of made is live =
     (λ k some. on k (asked_as g was of.kept key uses k (stood (λ (j : ℕ). (j ≡ g.key.0) ⊎ IsAmong j (answers_kept of.kept)) k (stands c g.q.0 mid.log) held holds.keys of.each (subst (λ hs. 1 ≤ count_of k hs) standing_then some))))
 
 -- so it is behind the decision
-pub asks_by : (g h : Given) → g ≡ h → (was mid : Moment) (end : List Entry) (held : List KeyId) (a : Act) → Goes g was mid → Adds h.door.caller mid.log end a → IsOwnCache g.t was.known was.asked g.door.caller was.log g.cache → IsAskedFor was.known was.asked g.key.0
+pub asks_by : (g h : Given) → g ≡ h → (was mid : Moment) (end : List Entry) (held : List KeyId) (a : Act) → Goes g was mid → Adds h.door.caller mid.log end a → IsTrueCache g.t was.known was.asked g.door.caller was.log g.cache → IsAskedFor was.known was.asked g.key.0
     → Holds h.door.caller h.q.0 held mid.log → (r : Ruling) → MarksKept h.key h.cache held r → AsksNoMore g was (record mid { log = end }) r
 asks_by g h same was mid end held a goes adds own key holds (ruling.Kept body) marks =
     asks_no_more g was mid end held a goes (subst (λ (x : Given). Adds x.door.caller mid.log end a) (sym same) adds) own key (subst (λ (x : Given). Holds x.door.caller x.q.0 held mid.log) (sym same) holds) (subst (λ (x : Given). AreOfKept x.key x.cache held) (sym same) marks)

@@ -12,6 +12,7 @@ use Rattle.hb_cache.specs.Kept.{kept_at, of_body}
 use Rattle.hb_names.specs.Names.{Name}
 use Rattle.hb_tables.specs.declared.desk.Held.{Held}
 use Rattle.hb_tables.specs.declared.entry.Entry.{Entry}
+use Rattle.hb_tables.specs.declared.entry.Act.{Act}
 use Rattle.hb_tables.specs.declared.entry.Verdict.TheVariants as verdict
 use Rattle.hb_tables.specs.declared.entry.By.TheVariants as by
 use Rattle.hb_tables.specs.History.{spot}
@@ -23,7 +24,7 @@ use Rattle.hb_call.specs.Own.{OwnAgrees}
 use Rattle.hb_call.specs.OwnCache.{AreUses, IsOwnCache}
 use Rattle.hb_call.specs.OwnLaws.{agrees_hits, hit_agrees, own_differs}
 
-module _ (t : Table) (names asked : List Name) (c k : ℕ) (log : List Entry) (cache : List (Option Kept)) (own : IsOwnCache t names asked c log cache) (x : ℕ × ℕ) where
+module _ (t : Table) (names asked : List Name) (c : ℕ) (past : List Act) (k : ℕ) (log : List Entry) (cache : List (Option Kept)) (own : IsOwnCache t names asked c (Some past) log cache) (x : ℕ × ℕ) where
   counts_true : (us : List Used) (seen : List Seen) → AreUses t names asked log us seen → AreTrue t names log x (answers_in us seen) → AllByRecursion (λ s. (spot s.key.0 log).changes ≡ s.changes) seen
   counts_true [] [] u a = tt
   counts_true [] (s ∷ seen) u a = absurd u
@@ -31,8 +32,8 @@ module _ (t : Table) (names asked : List Name) (c k : ℕ) (log : List Entry) (c
   counts_true (v ∷ us) (s ∷ seen) u a = (sym a.1.2, counts_true us seen u.1 a.2)
 
   -- where the holds of its uses found their counts, an own check agrees
-  pub kept_agrees : (kept : Kept) (held : Held) → kept_at cache k ≡ Some kept → kept.key.0 ≡ k → Some kept.derivation.body ≡ (spot k log).body → HasType log x k held → kept.changes ≡ held.changes → AreTrue t names log x (answers_kept kept) → OwnAgrees c k log
-  kept_agrees kept held there keyed body type count a = hit_agrees t names asked c k log cache own (record {
+  pub kept_agrees : (kept : Kept) (held : Held) → kept_at cache k ≡ Some kept → kept.key.0 ≡ k → Some kept.derivation.body ≡ (spot k log).body → HasType log x k held → kept.changes ≡ held.changes → AreTrue t names log x (answers_kept kept) → OwnAgrees c past k log
+  kept_agrees kept held there keyed body type count a = hit_agrees t names asked c past k log cache own (record {
     kept = kept;
     there = there;
     body = sym body;
@@ -41,16 +42,16 @@ module _ (t : Table) (names asked : List Name) (c k : ℕ) (log : List Entry) (c
   })
 
   -- where no check of this body is kept, no own check agrees
-  pub unfound_differs : (body : BodySite) → of_body body.0 (kept_at cache k) ≡ None → Some body ≡ (spot k log).body → OwnAgrees c k log → ⊥
+  pub unfound_differs : (body : BodySite) → of_body body.0 (kept_at cache k) ≡ None → Some body ≡ (spot k log).body → OwnAgrees c past k log → ⊥
   unfound_differs body none is a =
-      let h = agrees_hits t names asked c k log cache own a in
+      let h = agrees_hits t names asked c past k log cache own a in
       let same : h.kept.derivation.body ≡ body = same_Some h.kept.derivation.body body (sym (is ∙ h.body)) in
       let found : of_body body.0 (kept_at cache k) ≡ Some h.kept = ap (of_body body.0) h.there ∙ ap (λ b. if b then Some h.kept else None) (eq-eqb h.kept.derivation.body.0 body.0 (ap (λ (s : BodySite). s.0) same)) in
       none-some h.kept (sym none ∙ found)
 
   -- where the own key's hold found another count, no own check agrees
-  pub other_differs : (kept : Kept) (held : Held) → kept_at cache k ≡ Some kept → kept.key.0 ≡ k → HasType log x k held → (kept.changes ≡ held.changes → ⊥) → OwnAgrees c k log → ⊥
-  other_differs kept held there keyed type other = own_differs t names asked c k log cache own kept there (λ e. other (sym e ∙ ap (λ j. (spot j log).changes) keyed ∙ sym type.2))
+  pub other_differs : (kept : Kept) (held : Held) → kept_at cache k ≡ Some kept → kept.key.0 ≡ k → HasType log x k held → (kept.changes ≡ held.changes → ⊥) → OwnAgrees c past k log → ⊥
+  other_differs kept held there keyed type other = own_differs t names asked c past k log cache own kept there (λ e. other (sym e ∙ ap (λ j. (spot j log).changes) keyed ∙ sym type.2))
 
   last_true : (held : Held) (us : List Used) (seen : List Seen) (n : ℕ) (s : Seen) → AreUses t names asked log us seen → slice_get seen n ≡ Some s → AreTrue t names log x (take n (answers_in us seen) ++ map (λ (y : Answer). record y { held = held }) (take 1 (drop n (answers_in us seen))))
       → held.changes ≡ (spot s.key.0 log).changes
@@ -66,9 +67,9 @@ module _ (t : Table) (names asked : List Name) (c k : ℕ) (log : List Entry) (c
   count_at (z ∷ seen) (suc n) s all e = count_at seen n s all.1 e
 
   -- where the hold of a use found another count, no own check agrees
-  pub last_differs : (kept : Kept) (last : ℕ) (held : Held) (s : Seen) → kept_at cache k ≡ Some kept → slice_get kept.counts.items last ≡ Some s → (held.changes ≡ s.changes → ⊥) → AreTrue t names log x (answers_differing kept last held) → OwnAgrees c k log → ⊥
+  pub last_differs : (kept : Kept) (last : ℕ) (held : Held) (s : Seen) → kept_at cache k ≡ Some kept → slice_get kept.counts.items last ≡ Some s → (held.changes ≡ s.changes → ⊥) → AreTrue t names log x (answers_differing kept last held) → OwnAgrees c past k log → ⊥
   last_differs kept last held s there at other a agrees =
-      let h = agrees_hits t names asked c k log cache own agrees in
+      let h = agrees_hits t names asked c past k log cache own agrees in
       let now = last_true held kept.derivation.uses.items kept.counts.items last s (own.each k kept there).uses at a in
       let all = subst (λ (y : Kept). AllByRecursion (λ s. (spot s.key.0 log).changes ≡ s.changes) y.counts.items) (same_Some h.kept kept (sym h.there ∙ there)) h.counts in
       other (now ∙ count_at kept.counts.items last s all at)
@@ -78,16 +79,16 @@ module _ (t : Table) (names asked : List Name) (c k : ℕ) (log : List Entry) (c
 module _ (g : Given) where
   -- a call whose comparison found all as it was enters by its caller's own check
   pub agreed_rightly : (kept : Kept) → kept_at g.cache g.key.0 ≡ Some kept → kept.key.0 ≡ g.key.0 → kept.changes ≡ g.own.changes → IsRightly g (Some kept.derivation.body) (answers_kept kept) (verdict.Enter by.Own)
-  agreed_rightly kept there keyed count names asked log own body type a = kept_agrees g.t names asked g.door.caller g.key.0 log g.cache own (g.door.caller, g.q.0) kept g.own there keyed body type count a
+  agreed_rightly kept there keyed count names asked past log own body type a = kept_agrees g.t names asked g.door.caller past g.key.0 log g.cache own (g.door.caller, g.q.0) kept g.own there keyed body type count a
 
   -- and by a fresh one where nothing of this body is kept
   pub unfound_rightly : (body : BodySite) → of_body body.0 (kept_at g.cache g.key.0) ≡ None → IsRightly g (Some body) [] (verdict.Enter by.Fresh)
-  unfound_rightly body none names asked log own is type a = unfound_differs g.t names asked g.door.caller g.key.0 log g.cache own (g.door.caller, g.q.0) body none is
+  unfound_rightly body none names asked past log own is type a = unfound_differs g.t names asked g.door.caller past g.key.0 log g.cache own (g.door.caller, g.q.0) body none is
 
   -- where the type of its own key was changed
   pub other_rightly : (kept : Kept) (site : Option BodySite) → kept_at g.cache g.key.0 ≡ Some kept → kept.key.0 ≡ g.key.0 → (kept.changes ≡ g.own.changes → ⊥) → IsRightly g site [] (verdict.Enter by.Fresh)
-  other_rightly kept site there keyed other names asked log own is type a = other_differs g.t names asked g.door.caller g.key.0 log g.cache own (g.door.caller, g.q.0) kept g.own there keyed type other
+  other_rightly kept site there keyed other names asked past log own is type a = other_differs g.t names asked g.door.caller past g.key.0 log g.cache own (g.door.caller, g.q.0) kept g.own there keyed type other
 
   -- or that of a use
   pub last_rightly : (kept : Kept) (site : Option BodySite) (last : ℕ) (held : Held) (s : Seen) → kept_at g.cache g.key.0 ≡ Some kept → slice_get kept.counts.items last ≡ Some s → (held.changes ≡ s.changes → ⊥) → IsRightly g site (answers_differing kept last held) (verdict.Enter by.Fresh)
-  last_rightly kept site last held s there at other names asked log own is type a = last_differs g.t names asked g.door.caller g.key.0 log g.cache own (g.door.caller, g.q.0) kept last held s there at other a
+  last_rightly kept site last held s there at other names asked past log own is type a = last_differs g.t names asked g.door.caller past g.key.0 log g.cache own (g.door.caller, g.q.0) kept last held s there at other a

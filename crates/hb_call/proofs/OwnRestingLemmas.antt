@@ -22,6 +22,7 @@ use Rattle.hb_cache.specs.Kept.{count_in, item_of, kept_at}
 use Rattle.hb_check.specs.Asked.{Asked, answer_of, asked}
 use Rattle.hb_names.specs.Names.{Name, place}
 use Rattle.hb_tables.specs.declared.entry.Entry.{Entry}
+use Rattle.hb_tables.specs.declared.entry.Act.{Act}
 use Rattle.hb_tables.specs.declared.entry.Act.TheVariants.{Call}
 use Rattle.hb_tables.specs.declared.entry.Verdict.TheVariants as verdict
 use Rattle.hb_tables.specs.declared.entry.By.TheVariants as by
@@ -118,7 +119,7 @@ found_uses t names limit c q log (a ∷ answers) (u ∷ us) legal e h =
 
 -- ── what is kept of a fresh check ──
 
-module _ (g : Given) (known asked_names : List Name) (new : List Entry) (held : List KeyId) (answers : List Answer) (d : Derivation) (r : IsResting g known asked_names new held answers d)
+module _ (g : Given) (past : Option (List Act)) (known asked_names : List Name) (new : List Entry) (held : List KeyId) (answers : List Answer) (d : Derivation) (r : IsResting g past known asked_names new held answers d)
     (kept : Kept) (keyed : kept.key ≡ g.key) (count : kept.changes ≡ g.own.changes) (counts : kept.counts.items ≡ map seen_of answers) (derived : kept.derivation ≡ d) where
   abbrev c : ℕ
   c = g.door.caller
@@ -172,10 +173,10 @@ module _ (g : Given) (known asked_names : List Name) (new : List Entry) (held : 
   stands_new = ap (standing g.q.0) acts_new ∙ standing_append g.q.0 [] (acts c log) (Call g.q g.key (Some d.body) g.args (verdict.Enter by.Fresh) ∷ [])
 
   -- behind the Call what is kept with it is the caller's own
-  pub resting_own : (left : List (Option Kept)) → ((k : ℕ) → kept_at left k ≡ (if eqb kept.key.0 k then Some kept else kept_at g.cache k)) → IsOwnCache g.t known asked_names g.door.caller new left
+  pub resting_own : (left : List (Option Kept)) → ((k : ℕ) → kept_at left k ≡ (if eqb kept.key.0 k then Some kept else kept_at g.cache k)) → IsOwnCache g.t known asked_names g.door.caller past new left
   resting_own left puts =
       let goes : IsPrefix log new = (entry c (Call g.q g.key (Some d.body) g.args (verdict.Enter by.Fresh)) ∷ [], sym r.is) in
-      own_put g.t known known asked_names asked_names c log new g.cache (prefix_itself known) (prefix_itself asked_names) r.kept g.q g.key d.body g.args (verdict.Enter by.Fresh) kept left goes acts_new refl keyed
+      own_put g.t known known asked_names asked_names c past log new g.cache (prefix_itself known) (prefix_itself asked_names) r.kept g.q g.key d.body g.args (verdict.Enter by.Fresh) kept left goes acts_new refl keyed
       (subst (λ (s : BodySite). SaysSame (item_of kept) (item_by (stands c g.q.0 log) s)) (ap (λ (z : Derivation). z.body) derived) (says_held g.door.limit c g.q.0 log kept r.calling.legal resting_holds))
       (check_on g.t known known asked_names asked_names log new (prefix_itself known) (prefix_itself asked_names) goes kept resting_true) puts
 

@@ -7,7 +7,10 @@ use Rattle.hb_types.specs.declared.ids.BodySite.{BodySite}
 use Rattle.hb_names.specs.Names.{Name, place}
 use Rattle.hb_tables.specs.declared.entry.Entry.{Entry}
 use Rattle.hb_tables.specs.declared.entry.Verdict.{Verdict}
+use Rattle.hb_tables.specs.declared.entry.Act.{Act}
 use Rattle.hb_tables.specs.declared.entry.Act.TheVariants.{Call}
+use Rattle.hb_tables.specs.declared.entry.Verdict.TheVariants as verdict
+use Rattle.hb_tables.specs.declared.entry.By.TheVariants as by
 use Rattle.hb_tables.specs.History.{spot, journal, entry, Adds, IsLegal}
 use Rattle.hb_tables.specs.Rows.{IsDecided, kinds_of}
 use Rattle.hb_tables.proofs.DeskLemmas.{adds_prefix, learns_acts}
@@ -23,13 +26,15 @@ use Rattle.hb_call.specs.GrowthLaws.{prefix_itself}
 use Rattle.hb_call.specs.Own.{brings}
 use Rattle.hb_call.specs.OwnCache.{IsOwnCache}
 use Rattle.hb_call.specs.OwnLaws.{own_stays}
-use Rattle.hb_call.specs.Rules.{IsRightWay}
+use Rattle.hb_call.specs.Growth.{EachNew}
+use Rattle.hb_call.specs.Rules.{EntersBy}
+use Rattle.hb_call.proofs.GrowthLemmas.{each_adds}
 use Rattle.hb_call.proofs.DecidingLemmas.{learned, row_here}
 use Rattle.hb_call.proofs.NarrowLemmas.{narrow}
 
 module _ (g : Given) (known asked : List Name) (log : List Entry) (held : List KeyId) (compared answers : List Answer) (h : IsCalling g.t g.door g.q.0 known asked log g.key g.own held (compared ++ answers))
     (new : List Entry) (site : Option BodySite) (v : Verdict) (between : List Entry) (is : new ≡ (log ++ between) ++ entry g.door.caller (Call g.q g.key site g.args v) ∷ []) (none : journal g.door.caller between ≡ []) (legal : IsLegal g.door.limit new)
-    (ruled : IsRuled g site compared answers v) (bytes : List ℕ) (named : place known (g.class.0, bytes) ≡ Some g.key.0) (defined : site ≡ (spot g.key.0 (log ++ between)).body) (own : IsOwnCache g.t known asked g.door.caller log g.cache) where
+    (ruled : IsRuled g site compared answers v) (bytes : List ℕ) (named : place known (g.class.0, bytes) ≡ Some g.key.0) (defined : site ≡ (spot g.key.0 (log ++ between)).body) where
   abbrev here : List Entry
   here = log ++ between
 
@@ -39,37 +44,43 @@ module _ (g : Given) (known asked : List Name) (log : List Entry) (held : List K
   narrow_here : IsCalling g.t g.door g.q.0 known asked here g.key g.own held answers
   narrow_here = narrow g known asked here held compared answers calling_here site v ruled
 
-  own_here : IsOwnCache g.t known asked g.door.caller here g.cache
-  own_here = own_stays g.t known known asked asked g.door.caller log here g.cache (prefix_itself known) (prefix_itself asked) own [] (between, refl) (learns_acts g.door.caller log here (between, refl, none) ∙ sym (append-nil _)) tt
-
   -- the call is decided as its row says
   pub ruled_row : IsDecided g.t known here (g.door.caller, g.q.0) g.key.0 site (kinds_of g.args) v
   ruled_row = row_here g.t g.door g.q known asked here g.key g.own held answers narrow_here g.class.0 bytes site (kinds_of g.args) v named defined ruled.verdict
 
-  -- and enters in the right way
-  pub ruled_way : IsRightWay g.door.caller g.key.0 here v
-  ruled_way = ruled.way known asked here own_here defined calling_here.own_is calling_here.answered
+  own_here : (past : Option (List Act)) → IsOwnCache g.t known asked g.door.caller past log g.cache → IsOwnCache g.t known asked g.door.caller past here g.cache
+  own_here past own = own_stays g.t known known asked asked g.door.caller past log here g.cache (prefix_itself known) (prefix_itself asked) own [] (between, refl) (learns_acts g.door.caller log here (between, refl, none) ∙ sym (append-nil _)) tt
 
-  adds : Adds g.door.caller log new (Call g.q g.key site g.args v)
+  abbrev adds : Adds g.door.caller log new (Call g.q g.key site g.args v)
   adds = (between, is, none)
 
-  own_call : brings v ≡ false → IsOwnCache g.t known asked g.door.caller new g.cache
-  own_call old = own_stays g.t known known asked asked g.door.caller log new g.cache (prefix_itself known) (prefix_itself asked) own (Call g.q g.key site g.args v ∷ []) (adds_prefix g.door.caller log new (Call g.q g.key site g.args v) adds) (adds_act g.door.caller log new (Call g.q g.key site g.args v) adds) (old, tt)
+  -- and enters by the right check
+  pub ruled_ways : (past : List Act) → IsOwnCache g.t known asked g.door.caller (Some past) log g.cache → EachNew (EntersBy g.door.caller past) g.door.caller log new
+  ruled_ways past own = each_adds (EntersBy g.door.caller past) g.door.caller log new (Call g.q g.key site g.args v) adds (ruled.way known asked past here (own_here (Some past) own) defined calling_here.own_is calling_here.answered)
 
-  -- what is kept is the caller's own behind the Call, or was before that of a fresh check
-  pub ruled_own : (said : List Answer) (r : Ruling) → v ≡ verdict_by r → site ≡ site_by r → Shows g said answers r → IsOwnBehind g known asked new held said (Ok r)
-  ruled_own said (ruling.Kept body) e f shows = own_call (ap brings e)
-  ruled_own said (ruling.Checked d) e f shows = record {
+  own_call : (past : Option (List Act)) → IsOwnCache g.t known asked g.door.caller past log g.cache → brings v ≡ false → IsOwnCache g.t known asked g.door.caller past new g.cache
+  own_call past own old = own_stays g.t known known asked asked g.door.caller past log new g.cache (prefix_itself known) (prefix_itself asked) own (Call g.q g.key site g.args v ∷ []) (adds_prefix g.door.caller log new (Call g.q g.key site g.args v) adds) (adds_act g.door.caller log new (Call g.q g.key site g.args v) adds) (old, tt)
+
+  -- what is kept is true, and its machine's own, behind the Call, or was before that of a fresh check
+  pub ruled_own : (past : Option (List Act)) → IsOwnCache g.t known asked g.door.caller past log g.cache → (said : List Answer) (r : Ruling) → v ≡ verdict_by r → site ≡ site_by r → Shows g said answers r → IsOwnBehind g past known asked new held said (Ok r)
+  ruled_own past own said (ruling.Kept body) e f shows = own_call past own (ap brings e)
+  ruled_own past own said (ruling.Checked d) e f shows = record {
     before = here;
     is = is ∙ ap (λ (o : Option BodySite). here ++ entry g.door.caller (Call g.q g.key o g.args v) ∷ []) f ∙ ap (λ (w : Verdict). here ++ entry g.door.caller (Call g.q g.key (Some d.body) g.args w) ∷ []) e;
     named = (bytes, named);
     calling = subst (λ (l : List Answer). IsCalling g.t g.door g.q.0 known asked here g.key g.own held l) shows.0 narrow_here;
     shown = subst (λ (l : List Answer). IsShown g l d) shows.0 shows.1;
-    kept = own_here;
+    kept = own_here past own;
   }
-  ruled_own said (ruling.Refused other w) e f shows = own_call (ap brings e ∙ shows)
+  ruled_own past own said (ruling.Refused other w) e f shows = own_call past own (ap brings e ∙ shows)
+
+-- no derivation is shared
+pub ruled_unshared : (g : Given) (said answers : List Answer) (v : Verdict) (r : Ruling) → v ≡ verdict_by r → Shows g said answers r → v ≡ verdict.Enter by.Shared → ⊥
+ruled_unshared g said answers v (ruling.Kept body) e shows f = let h = sym e ∙ f in absurd (cc h)
+ruled_unshared g said answers v (ruling.Checked d) e shows f = let h = sym e ∙ f in absurd (cc h)
+ruled_unshared g said answers v (ruling.Refused site w) e shows f = let h : false ≡ brings (verdict.Enter by.Shared) = sym shows ∙ ap brings (sym e ∙ f) in absurd (cc h)
 
 -- a call that was not decided leaves what is kept
-pub own_stopped : (g : Given) (known asked : List Name) (new : List Entry) (held : List KeyId) (said : List Answer) (r : Result Ruling CallFail) (cause : CallFail) → IsErrAnd r (λ x. x ≡ cause) → IsOwnCache g.t known asked g.door.caller new g.cache → IsOwnBehind g known asked new held said r
-own_stopped g known asked new held said (Ok r) cause e own = absurd e
-own_stopped g known asked new held said (Err x) cause e own = own
+pub own_stopped : (g : Given) (past : Option (List Act)) (known asked : List Name) (new : List Entry) (held : List KeyId) (said : List Answer) (r : Result Ruling CallFail) (cause : CallFail) → IsErrAnd r (λ x. x ≡ cause) → IsOwnCache g.t known asked g.door.caller past new g.cache → IsOwnBehind g past known asked new held said r
+own_stopped g past known asked new held said (Ok r) cause e own = absurd e
+own_stopped g past known asked new held said (Err x) cause e own = own

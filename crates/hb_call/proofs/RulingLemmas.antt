@@ -17,6 +17,7 @@ use Rattle.hb_check.specs.declared.bodies.Checked.{Checked}
 use Rattle.hb_check.specs.declared.bodies.Checked.TheVariants as checked
 use Rattle.hb_check.specs.Asked.{Refusal}
 use Rattle.hb_check.specs.Checking.{Answers, IsDerivation}
+use Rattle.hb_tables.specs.declared.entry.Act.{Act}
 use Rattle.hb_tables.specs.declared.entry.Entry.{Entry}
 use Rattle.hb_tables.specs.declared.entry.Verdict.{Verdict}
 use Rattle.hb_tables.specs.declared.entry.Verdict.TheVariants as verdict
@@ -51,7 +52,7 @@ ruled_by g m held compared answers body declared refused (checked.Good d) t own 
   ruled = record {
     verdict = subst (λ (o : Option TypeSite). IsVerdictBy g.t g.class.0 (Some body) o (kinds_of g.args) (answers_of answers) (verdict.Enter by.Fresh)) (sym own) (found_by g.t g.class.0 body declared t.ty (kinds_of g.args) (answers_of answers) refused (checked.Good d) (takes_at g t declared own) t.fits a);
     next = differs.next;
-    way = λ names asked log kept site own told. differs.none names asked log kept site own (true_front g.t names log (g.door.caller, g.q.0) compared answers told);
+    way = λ names asked past log kept site own told. differs.none names asked past log kept site own (true_front g.t names log (g.door.caller, g.q.0) compared answers told);
   };
   shows = (refl, record { declared = declared; typed = own; shown = subst (λ (n : ℕ). IsDerivation g.t g.class.0 n declared.0 (answers_of answers) d) (sym a.derivation.body_is) a.derivation });
 }
@@ -63,7 +64,7 @@ ruled_by g m held compared answers body declared refused (checked.Bad ill) t own
   ruled = record {
     verdict = subst (λ (o : Option TypeSite). IsVerdictBy g.t g.class.0 (Some body) o (kinds_of g.args) (answers_of answers) (verdict.IllTyped ill)) (sym own) (found_by g.t g.class.0 body declared t.ty (kinds_of g.args) (answers_of answers) refused (checked.Bad ill) (takes_at g t declared own) t.fits a);
     next = differs.next;
-    way = λ names asked log kept site own told. tt;
+    way = λ names asked past log kept site own told. tt;
   };
   shows = refl;
 }
@@ -105,12 +106,12 @@ pub bad_args : (t : Table) (class : ℕ) (site : Option BodySite) (own : Option 
 bad_args t class site own kinds b m e f fits D agree = rw (e, f, fits) (refl, refl)
 
 -- a call that may not run its body, whatever is kept
-pub ruled_early : (g : Given) (m : Moment) (held : List KeyId) (said answers : List Answer) (site : Option BodySite) (v : Verdict) → IsVerdictBy g.t g.class.0 site g.own.ty (kinds_of g.args) [] v → ((c k : ℕ) (log : List Entry) → IsRightWay c k log v) → brings v ≡ false → answers ≡ [] → IsCalling g.t g.door g.q.0 m.known m.asked m.log g.key g.own held answers → IsRuledAt g m held said site (ruling.Refused site v)
+pub ruled_early : (g : Given) (m : Moment) (held : List KeyId) (said answers : List Answer) (site : Option BodySite) (v : Verdict) → IsVerdictBy g.t g.class.0 site g.own.ty (kinds_of g.args) [] v → ((c : ℕ) (past : List Act) (k : ℕ) (log : List Entry) → IsRightWay c past k log v) → brings v ≡ false → answers ≡ [] → IsCalling g.t g.door g.q.0 m.known m.asked m.log g.key g.own held answers → IsRuledAt g m held said site (ruling.Refused site v)
 ruled_early g m held said answers site v by way refuses none calling = record {
   is = refl;
   compared = [];
   answers = [];
   calling = subst (λ (l : List Answer). IsCalling g.t g.door g.q.0 m.known m.asked m.log g.key g.own held l) none calling;
-  ruled = record { verdict = by; next = none_next g site; way = λ names asked log kept is own told. way g.door.caller g.key.0 log };
+  ruled = record { verdict = by; next = none_next g site; way = λ names asked past log kept is own told. way g.door.caller past g.key.0 log };
   shows = refuses;
 }

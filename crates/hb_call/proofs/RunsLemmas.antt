@@ -208,5 +208,4 @@ retreat_fits t names c q key others old new own hs may held keys once apart is =
       })));
       whole = tt;
       named = tt;
-      entered = tt;
     }))

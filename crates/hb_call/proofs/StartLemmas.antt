@@ -61,7 +61,7 @@ pub first_fits : (t : Table) (known : List Name) (c : ℕ) (q : CallNo) (old mid
 first_fits t known c q old mid first key ty n adds none named learns =
     let F = FitsRules t known c in
     each_on F c old mid first (learns_prefix c mid first learns)
-    (each_adds F c old mid (Hold q key ty n) adds (record { row = tt; hold = inl (ap (standing q.0) (learns_acts c old (old ++ adds.0) (adds.0, refl, adds.2)) ∙ none); free = tt; whole = inl (ap (standing q.0) (learns_acts c old (old ++ adds.0) (adds.0, refl, adds.2)) ∙ none); named = named; entered = tt }))
+    (each_adds F c old mid (Hold q key ty n) adds (record { row = tt; hold = inl (ap (standing q.0) (learns_acts c old (old ++ adds.0) (adds.0, refl, adds.2)) ∙ none); free = tt; whole = inl (ap (standing q.0) (learns_acts c old (old ++ adds.0) (adds.0, refl, adds.2)) ∙ none); named = named }))
     (each_learns F c mid first learns)
 
 -- the look behind the first Hold

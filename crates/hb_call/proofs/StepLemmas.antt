@@ -23,7 +23,7 @@ use Rattle.hb_tables.proofs.StandingLemmas.{has_part}
 use Rattle.hb_call.specs.Held.{frees}
 use Rattle.hb_call.specs.Calling.{AreParts, Given, Goes, Grew, IsAlike, IsAskedFor, IsHeldFrom, Moment, Went}
 use Rattle.hb_call.specs.GrowthLaws.{grows_itself, prefix_itself, with_rules}
-use Rattle.hb_call.specs.Rules.{IsRightWay, FitsRules, IsWhole}
+use Rattle.hb_call.specs.Rules.{FitsRules, IsWhole}
 use Rattle.hb_call.specs.Alike.{goes_on}
 use Rattle.hb_call.proofs.GrowthLemmas.{asked_again, asked_on, each_adds, grows_adds, grows_frees, grows_learns, key_named, others_frees}
 use Rattle.hb_call.proofs.BegunLemmas.{AreOthers, begun_frees, begun_hold, begun_learns, keeps_others}
@@ -117,11 +117,11 @@ module _ (g : Given) (known asked : List Name) where
     begun = λ fits start b. begun_frees g keys start old new is others fits b;
   }
 
-  -- the Call comes last, as its row says, and enters in the right way
-  pub grew_call : (old new : List Entry) (site : Option BodySite) (v : Verdict) (adds : Adds g.door.caller old new (Call g.q g.key site g.args v)) → IsFilled g.args → IsDecided g.t known (old ++ adds.0) (g.door.caller, g.q.0) g.key.0 site (kinds_of g.args) v → IsWhole g.door.caller g.q.0 (old ++ adds.0) → IsRightWay g.door.caller g.key.0 (old ++ adds.0) v → Grew g (at known asked old) (at known asked new)
-  grew_call old new site v adds filled row whole way =
+  -- the Call comes last, as its row says
+  pub grew_call : (old new : List Entry) (site : Option BodySite) (v : Verdict) (adds : Adds g.door.caller old new (Call g.q g.key site g.args v)) → IsFilled g.args → IsDecided g.t known (old ++ adds.0) (g.door.caller, g.q.0) g.key.0 site (kinds_of g.args) v → IsWhole g.door.caller g.q.0 (old ++ adds.0) → Grew g (at known asked old) (at known asked new)
+  grew_call old new site v adds filled row whole =
       with_rules g.t g.door.caller known asked asked old new (grows_adds g.door.caller known asked asked old new (Call g.q g.key site g.args v) adds (λ names p. refl))
-      (each_adds (FitsRules g.t known g.door.caller) g.door.caller old new (Call g.q g.key site g.args v) adds (record { row = (row, filled); hold = tt; free = tt; whole = whole; named = tt; entered = way }))
+      (each_adds (FitsRules g.t known g.door.caller) g.door.caller old new (Call g.q g.key site g.args v) adds (record { row = (row, filled); hold = tt; free = tt; whole = whole; named = tt }))
 
   pub went_call : (old new : List Entry) (site : Option BodySite) (v : Verdict) → Adds g.door.caller old new (Call g.q g.key site g.args v) → IsLegal g.door.limit new → Went g (at known asked old) (at known asked new)
   went_call old new site v adds legal = went_adds asked old new (Call g.q g.key site g.args v) adds legal (λ p other. refl)

@@ -74,8 +74,8 @@ AreNext g site answers =
 -- Wherever what the call's holds found is so, and what is kept is the caller's own, the way of the verdict is right.
 abbrev pub IsRightly : Given → Option BodySite → List Answer → Verdict → Type 0
 IsRightly g site answers v =
-    (names asked : List Name) (log : List Entry) → IsOwnCache g.t names asked g.door.caller log g.cache → site ≡ (spot g.key.0 log).body → HasType log (g.door.caller, g.q.0) g.key.0 g.own → AreTrue g.t names log (g.door.caller, g.q.0) answers
-    → IsRightWay g.door.caller g.key.0 log v
+    (names asked : List Name) (past : List Act) (log : List Entry) → IsOwnCache g.t names asked g.door.caller (Some past) log g.cache → site ≡ (spot g.key.0 log).body → HasType log (g.door.caller, g.q.0) g.key.0 g.own → AreTrue g.t names log (g.door.caller, g.q.0) answers
+    → IsRightWay g.door.caller past g.key.0 log v
 
 -- The verdict rests on these answers. A comparison with what was kept had others before, each the next look, and the way of the verdict is right by all of them.
 pub record IsRuled (g : Given) (site : Option BodySite) (compared answers : List Answer) (v : Verdict) : Type 0 where
@@ -108,24 +108,24 @@ pub record IsRuledAt (g : Given) (m : Moment) (held : List KeyId) (said : List A
 pub record Decided (g : Given) (names : List Name) (old new : List Entry) (v : Verdict) (site : Option BodySite) : Type 0 where
   pub before : List Entry
   pub is : new ≡ before ++ entry g.door.caller (Call g.q g.key site g.args v) ∷ []
-  pub way : IsRightWay g.door.caller g.key.0 before v
+  pub unshared : v ≡ verdict.Enter by.Shared → ⊥
   pub row : IsDecided g.t names before (g.door.caller, g.q.0) g.key.0 site (kinds_of g.args) v
   pub reads : (start : List Entry) → Begun g start old
       → (made : List Act) × (acts g.door.caller new ≡ acts g.door.caller start ++ made)
       × ((l : List Act) → call_of g.t g.q.0 g.key.0 (kinds_of g.args) (made ++ l) ≡ called g.q.0 site v (stands g.door.caller g.q.0 new) l)
 
--- A check was made. Behind these entries came its Call: there the call held its own key and those of the answers alone, which are the derivation's uses, and what was kept was the caller's own.
-pub record IsResting (g : Given) (known asked : List Name) (new : List Entry) (held : List KeyId) (answers : List Answer) (d : Derivation) : Type 0 where
+-- A check was made. Behind these entries came its Call: there the call held its own key and those of the answers alone, which are the derivation's uses, and what was kept was true, and its machine's own.
+pub record IsResting (g : Given) (past : Option (List Act)) (known asked : List Name) (new : List Entry) (held : List KeyId) (answers : List Answer) (d : Derivation) : Type 0 where
   pub before : List Entry
   pub is : new ≡ before ++ entry g.door.caller (Call g.q g.key (Some d.body) g.args (verdict.Enter by.Fresh)) ∷ []
   pub named : (bytes : List ℕ) × (place known (g.class.0, bytes) ≡ Some g.key.0)
   pub calling : IsCalling g.t g.door g.q.0 known asked before g.key g.own held answers
   pub shown : IsShown g answers d
-  pub kept : IsOwnCache g.t known asked g.door.caller before g.cache
+  pub kept : IsOwnCache g.t known asked g.door.caller past before g.cache
 
--- What is kept is the caller's own behind the decision, but where a check was made: then it was so before the Call.
-abbrev pub IsOwnBehind : Given → (known asked : List Name) → List Entry → List KeyId → List Answer → Result Ruling CallFail → Type 0
-IsOwnBehind g known asked new held answers (Ok (ruling.Checked d)) = IsResting g known asked new held answers d
-IsOwnBehind g known asked new held answers (Ok (ruling.Kept body)) = IsOwnCache g.t known asked g.door.caller new g.cache
-IsOwnBehind g known asked new held answers (Ok (ruling.Refused site v)) = IsOwnCache g.t known asked g.door.caller new g.cache
-IsOwnBehind g known asked new held answers (Err cause) = IsOwnCache g.t known asked g.door.caller new g.cache
+-- What is kept is true, and its machine's own, behind the decision, but where a check was made: then it was so before the Call.
+abbrev pub IsOwnBehind : Given → (past : Option (List Act)) → (known asked : List Name) → List Entry → List KeyId → List Answer → Result Ruling CallFail → Type 0
+IsOwnBehind g past known asked new held answers (Ok (ruling.Checked d)) = IsResting g past known asked new held answers d
+IsOwnBehind g past known asked new held answers (Ok (ruling.Kept body)) = IsOwnCache g.t known asked g.door.caller past new g.cache
+IsOwnBehind g past known asked new held answers (Ok (ruling.Refused site v)) = IsOwnCache g.t known asked g.door.caller past new g.cache
+IsOwnBehind g past known asked new held answers (Err cause) = IsOwnCache g.t known asked g.door.caller past new g.cache

@@ -169,12 +169,12 @@ IsEndedWell c q log (ended.Own f) = (f.q ≡ q) × Holds c q.0 f.held.items log 
 IsEndedWell c q log (ended.Fresh f d) = (f.q ≡ q) × Holds c q.0 f.held.items log × HasCall c q.0 log
 IsEndedWell c q log (ended.Refused v) = Unit {0}
 
--- What is kept is the caller's own behind the call, but where a check was made: then it was so before the Call.
-abbrev pub IsOwnAtEnd : Given → (known asked : List Name) → List Entry → List Answer → Result Ended CallFail → Type 0
-IsOwnAtEnd g known asked new answers (Ok (ended.Own f)) = IsOwnCache g.t known asked g.door.caller new g.cache
-IsOwnAtEnd g known asked new answers (Ok (ended.Fresh f d)) = (f.q ≡ g.q) × (f.key ≡ g.key) × (f.body ≡ d.body) × IsResting g known asked new f.held.items answers d
-IsOwnAtEnd g known asked new answers (Ok (ended.Refused v)) = IsOwnCache g.t known asked g.door.caller new g.cache
-IsOwnAtEnd g known asked new answers (Err cause) = IsOwnCache g.t known asked g.door.caller new g.cache
+-- What is kept is true, and its machine's own, behind the call, but where a check was made: then it was so before the Call.
+abbrev pub IsOwnAtEnd : Given → (past : Option (List Act)) → (known asked : List Name) → List Entry → List Answer → Result Ended CallFail → Type 0
+IsOwnAtEnd g past known asked new answers (Ok (ended.Own f)) = IsOwnCache g.t known asked g.door.caller past new g.cache
+IsOwnAtEnd g past known asked new answers (Ok (ended.Fresh f d)) = (f.q ≡ g.q) × (f.key ≡ g.key) × (f.body ≡ d.body) × IsResting g past known asked new f.held.items answers d
+IsOwnAtEnd g past known asked new answers (Ok (ended.Refused v)) = IsOwnCache g.t known asked g.door.caller past new g.cache
+IsOwnAtEnd g past known asked new answers (Err cause) = IsOwnCache g.t known asked g.door.caller past new g.cache
 
 -- Where the body is entered by the caller's own check, and the call gave nothing back, the name of its method alone was asked for.
 abbrev pub MarksOnce : Asks → (was asked : List Name) → List Entry → List Entry → Result Entered CallFail → Type 0

@@ -194,7 +194,6 @@ rules_longer t names known c before a p h = record {
   free = free_longer t names known c before a p h.free;
   whole = h.whole;
   named = name_longer names known a p h.named;
-  entered = h.entered;
 }
 
 pub asked_append : (names asked : List Name) (l m : List Act) → asked_after names asked (l ++ m) ≡ asked_after names (asked_after names asked l) m

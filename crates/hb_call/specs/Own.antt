@@ -1,5 +1,5 @@
 -- What a caller keeps of its checks, read from its own acts.
-use Rattle.std.specs.Prelude.{◌≡◌, ℕ, ◌==◌, Bool, true, false, if◌then◌else◌, List, [], ◌∷◌, ◌++◌, Option, Some, None}
+use Rattle.std.specs.Prelude.{◌≡◌, ℕ, ◌==◌, Bool, true, false, if◌then◌else◌, List, [], ◌∷◌, ◌++◌, length, drop, Option, Some, None}
 use mathlib.Core.List.{IsPrefix}
 use Rattle.hb_types.specs.declared.ids.BodySite.{BodySite}
 use Rattle.hb_types.specs.declared.ids.TypeSite.{TypeSite}
@@ -59,6 +59,10 @@ cache_from before items (a ∷ l) = cache_from (before ++ a ∷ []) (kept_by bef
 abbrev pub cache_of : List Act → Items
 cache_of l = cache_from [] nothing l
 
+-- what a caller's machine keeps behind these acts, the first of which stand before its own
+abbrev pub cache_since : (past l : List Act) → Items
+cache_since past l = cache_from past nothing (drop (length past) l)
+
 -- the act changes what its caller keeps
 abbrev pub changes_kept : Act → Bool
 changes_kept (Call q key site args v) = brings v
@@ -75,10 +79,10 @@ abbrev pub LeavesKept : List Act → Type 0
 LeavesKept [] = Unit {0}
 LeavesKept (a ∷ l) = (changes_kept a ≡ false) × LeavesKept l
 
--- The caller keeps a check of the key that agrees with the tables behind this list.
-pub record OwnAgrees (c k : ℕ) (log : List Entry) : Type 0 where
+-- The caller's machine, before whose acts these stand, keeps a check of the key that agrees with the tables behind this list.
+pub record OwnAgrees (c : ℕ) (past : List Act) (k : ℕ) (log : List Entry) : Type 0 where
   pub item : Item
-  pub kept : cache_of (acts c log) k ≡ Some item
+  pub kept : cache_since past (acts c log) k ≡ Some item
   pub agrees : Agrees k item (λ j. (spot j log).body) (λ j. (spot j log).changes)
 
 -- At some place of the list the key had this type, which had been changed so often.

@@ -1,5 +1,6 @@
 -- When the checks that are kept are a caller's own.
-use Rattle.std.specs.Prelude.{◌≡◌, ℕ, true, List, [], ◌∷◌, Option, Some}
+use Rattle.std.specs.Prelude.{◌≡◌, ℕ, true, List, [], ◌∷◌, Option, Some, None}
+use mathlib.Core.List.{IsPrefix}
 use Rattle.std.specs.Option.{option_map}
 use Rattle.std.specs.List.{AllByRecursion}
 use Rattle.hb_types.specs.declared.ids.TypeSite.{TypeSite}
@@ -9,15 +10,18 @@ use Rattle.hb_deriv.specs.Derivation.{content_of, key_of, type_at, type_of}
 use Rattle.hb_deriv.specs.Programs.{IsFor, sites_of}
 use Rattle.hb_cache.specs.declared.kept.Kept.{Kept}
 use Rattle.hb_cache.specs.declared.kept.Seen.{Seen}
-use Rattle.hb_cache.specs.Cache.{SameItems}
+use Rattle.hb_cache.specs.Cache.{Items, SameItems}
 use Rattle.hb_cache.specs.Kept.{count_of, items_in, kept_at, uses}
 use Rattle.hb_names.specs.Names.{Name, place}
 use Rattle.hb_tables.specs.declared.entry.Entry.{Entry}
+use Rattle.hb_tables.specs.declared.entry.Act.{Act}
 use Rattle.hb_tables.specs.Frames.{acts}
 use Rattle.hb_tables.specs.History.{spot, times}
 use Rattle.hb_tables.specs.Names.{name_of}
 use Rattle.hb_call.specs.Calling.{IsAskedFor}
-use Rattle.hb_call.specs.Own.{WasSeen, cache_of}
+use Rattle.hb_call.specs.Growth.{EachNew}
+use Rattle.hb_call.specs.Own.{WasSeen, cache_since}
+use Rattle.hb_call.specs.Rules.{EntersBy}
 
 -- What a hold found is that of a use: the key is that of its method, which had this type with this count, and its method type was that of the use's site. Its name was asked for.
 pub record IsUse (t : Table) (names asked : List Name) (log : List Entry) (u : Used) (s : Seen) : Type 0 where
@@ -47,10 +51,24 @@ pub record IsTrueCheck (t : Table) (names asked : List Name) (log : List Entry) 
   -- each key has one count
   pub once : AllByRecursion (λ s. count_of kept s.key.0 ≡ Some s.changes) kept.counts.items
 
--- What is kept is what the caller's acts keep, and each kept check is true.
-pub record IsOwnCache (t : Table) (names asked : List Name) (c : ℕ) (log : List Entry) (cache : List (Option Kept)) : Type 0 where
-  pub same : SameItems (items_in cache) (cache_of (acts c log))
+-- Where it is told which acts stand before those of the caller's machine, the items are what the acts behind them keep.
+abbrev pub AreOwn : Option (List Act) → List Act → Items → Type 0
+AreOwn None l items = Unit {0}
+AreOwn (Some past) l items = IsPrefix past l × SameItems items (cache_since past l)
+
+-- Each kept check is true. Where it is told which acts stand before those of the caller's machine, what is kept is what its acts keep.
+pub record IsOwnCache (t : Table) (names asked : List Name) (c : ℕ) (past : Option (List Act)) (log : List Entry) (cache : List (Option Kept)) : Type 0 where
+  pub same : AreOwn past (acts c log) (items_in cache)
   pub each : (k : ℕ) (kept : Kept) → kept_at cache k ≡ Some kept → IsTrueCheck t names asked log kept
+
+-- Each kept check is true, whose ever it is.
+abbrev pub IsTrueCache : Table → (names asked : List Name) → ℕ → List Entry → List (Option Kept) → Type 0
+IsTrueCache t names asked c log cache = IsOwnCache t names asked c None log cache
+
+-- What is kept goes on to be true, and the machine's own where it was so. Then each body that was entered meanwhile was so by the right check.
+pub record KeepsChecks (t : Table) (c : ℕ) (names known was asked : List Name) (old new : List Entry) (cache left : List (Option Kept)) : Type 0 where
+  pub own : (past : Option (List Act)) → IsOwnCache t names was c past old cache → IsOwnCache t known asked c past new left
+  pub ways : (past : List Act) → IsOwnCache t names was c (Some past) old cache → EachNew (EntersBy c past) c old new
 
 -- What is kept for the key is of its definition, and each of its counts is how often that key's type was changed.
 pub record IsHit (cache : List (Option Kept)) (k : ℕ) (log : List Entry) : Type 0 where

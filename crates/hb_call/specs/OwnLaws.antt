@@ -3,7 +3,7 @@ use Rattle.std.proofs.Common.{◌≡◌, ℕ, zero, suc, Bool, true, false, eqb,
 use Rattle.std.proofs.lemmas.List.{append-nil}
 use Rattle.std.proofs.lemmas.Bool.{eqb-true}
 use Rattle.std.proofs.lemmas.Option.{none-some, same_Some}
-use Rattle.std.specs.Prelude.{Option, if◌then◌else◌, is_some, slice_get}
+use Rattle.std.specs.Prelude.{Option, if◌then◌else◌, is_some, slice_get, length, drop}
 use Rattle.std.specs.Option.{option_map}
 use Rattle.std.specs.List.{AllByRecursion}
 use mathlib.Core.List.{IsPrefix}
@@ -30,16 +30,18 @@ use Rattle.hb_tables.specs.Frames.{acts}
 use Rattle.hb_tables.specs.History.{spot, Adds, Learns}
 use Rattle.hb_tables.specs.Names.{name_of}
 use Rattle.hb_tables.specs.Rows.{site_in, type_of_key, types_in}
-use Rattle.hb_tables.specs.Standing.{standing}
+use Rattle.hb_tables.specs.Standing.{Stand, standing, standing_from}
 use Rattle.hb_tables.proofs.DeskLemmas.{adds_prefix, learns_acts, learns_prefix}
 use Rattle.hb_tables.proofs.FrontLemmas.{adds_act}
 use Rattle.hb_tables.proofs.HistoryLemmas.{changes_same}
+use Rattle.hb_tables.proofs.StandingLemmas.{standing_append}
 use Rattle.hb_call.specs.Calling.{IsAskedFor}
 use Rattle.hb_call.specs.Growth.{Grows, asked_after, asked_by, with_found, with_key}
-use Rattle.hb_call.specs.GrowthLaws.{prefix_itself, prefix_more}
+use Rattle.hb_call.specs.GrowthLaws.{each_itself, each_on, prefix_itself, prefix_more}
 use Rattle.hb_call.specs.Held.{stands}
-use Rattle.hb_call.specs.Own.{LeavesKept, OwnAgrees, WasSeen, brings, cache_from, cache_of, changes_kept, item_by, kept_by}
-use Rattle.hb_call.specs.OwnCache.{AreUses, IsHit, IsOwnCache, IsTrueCheck, IsUse}
+use Rattle.hb_call.specs.Own.{LeavesKept, OwnAgrees, WasSeen, brings, cache_from, cache_of, cache_since, changes_kept, item_by, kept_by}
+use Rattle.hb_call.specs.OwnCache.{AreOwn, AreUses, IsHit, IsOwnCache, IsTrueCache, IsTrueCheck, IsUse, KeepsChecks}
+use Rattle.hb_call.specs.Rules.{EntersBy}
 
 -- ── the fold ──
 
@@ -63,13 +65,50 @@ cache_left : (before : List Act) (items : Items) (l : List Act) → LeavesKept l
 cache_left before items [] h = refl
 cache_left before items (a ∷ l) h = ap (λ i. cache_from (before ++ a ∷ []) i l) (kept_left before items a h.0) ∙ cache_left (before ++ a ∷ []) items l h.1
 
--- what a caller keeps stays over acts that leave it
-pub cache_stays : (c : ℕ) (old new : List Entry) (made : List Act) → acts c new ≡ acts c old ++ made → LeavesKept made → cache_of (acts c new) ≡ cache_of (acts c old)
-cache_stays c old new made is h = ap cache_of is ∙ cache_append [] nothing (acts c old) made ∙ cache_left (acts c old) (cache_of (acts c old)) made h
+drop_all : (past l : List Act) → drop (length past) (past ++ l) ≡ l
+drop_all [] l = refl
+drop_all (a ∷ past) l = drop_all past l
+
+-- what more acts make of the items that the machine keeps
+pub since_append : (past l made : List Act) → IsPrefix past l → cache_since past (l ++ made) ≡ cache_from l (cache_since past l) made
+since_append past l made p =
+    subst (λ (m : List Act). cache_since past (m ++ made) ≡ cache_from m (cache_since past m) made) p.1
+    (ap (cache_from past nothing) (ap (drop (length past)) (append_assoc past p.0 made) ∙ drop_all past (p.0 ++ made))
+    ∙ cache_append past nothing p.0 made ∙ ap (λ (l : List Act). cache_from (past ++ p.0) (cache_from past nothing l) made) (sym (drop_all past p.0)))
+
+-- what a machine keeps stays over acts that leave it
+pub cache_stays : (c : ℕ) (past : List Act) (old new : List Entry) (made : List Act) → IsPrefix past (acts c old) → acts c new ≡ acts c old ++ made → LeavesKept made → cache_since past (acts c new) ≡ cache_since past (acts c old)
+cache_stays c past old new made begins is h = ap (cache_since past) is ∙ since_append past (acts c old) made begins ∙ cache_left (acts c old) (cache_since past (acts c old)) made h
 
 -- and is what one act more makes of it
-pub cache_more : (c : ℕ) (old new : List Entry) (a : Act) → acts c new ≡ acts c old ++ a ∷ [] → cache_of (acts c new) ≡ kept_by (acts c old) (cache_of (acts c old)) a
-cache_more c old new a is = ap cache_of is ∙ cache_append [] nothing (acts c old) (a ∷ [])
+pub cache_more : (c : ℕ) (past : List Act) (old new : List Entry) (a : Act) → IsPrefix past (acts c old) → acts c new ≡ acts c old ++ a ∷ [] → cache_since past (acts c new) ≡ kept_by (acts c old) (cache_since past (acts c old)) a
+cache_more c past old new a begins is = ap (cache_since past) is ∙ since_append past (acts c old) (a ∷ []) begins
+
+-- what a call brings depends on what stands alone
+kept_alike : (x y : List Act) (items : Items) (a : Act) → ((q : ℕ) → standing q x ≡ standing q y) → kept_by x items a ≡ kept_by y items a
+kept_alike x y items (Call q key (Some site) args v) same = ap (λ (hs : List Stand). if brings v then with_item key.0 (item_by hs site) items else items) (same q.0)
+kept_alike x y items (Call q key None args v) same = refl
+kept_alike x y items (Retype key site) same = refl
+kept_alike x y items (Define key site) same = refl
+kept_alike x y items (Hold q key ty changes) same = refl
+kept_alike x y items (Free q key) same = refl
+kept_alike x y items (Busy key pins) same = refl
+kept_alike x y items (WornType key) same = refl
+kept_alike x y items (WornDef key) same = refl
+
+cache_alike : (x y : List Act) (items : Items) (l : List Act) → ((q : ℕ) → standing q x ≡ standing q y) → cache_from x items l ≡ cache_from y items l
+cache_alike x y items [] same = refl
+cache_alike x y items (a ∷ l) same =
+    ap (λ (i : Items). cache_from (x ++ a ∷ []) i l) (kept_alike x y items a same)
+    ∙ cache_alike (x ++ a ∷ []) (y ++ a ∷ []) (kept_by y items a) l (λ q. standing_append q [] x (a ∷ []) ∙ ap (λ (hs : List Stand). standing_from q hs (a ∷ [])) (same q) ∙ sym (standing_append q [] y (a ∷ [])))
+
+-- A machine that begins where its caller holds nothing keeps what its own acts alone keep.
+pub since_alone : (past mine : List Act) → ((q : ℕ) → standing q past ≡ []) → cache_since past (past ++ mine) ≡ cache_of mine
+since_alone past mine none = ap (cache_from past nothing) (drop_all past mine) ∙ cache_alike past [] nothing mine none
+
+-- and where it begins it keeps nothing
+pub since_itself : (past : List Act) → cache_since past past ≡ nothing
+since_itself past = ap (cache_from past nothing) (ap (drop (length past)) (sym (append-nil past)) ∙ drop_all past [])
 
 pub leaves_join : (l m : List Act) → LeavesKept l → LeavesKept m → LeavesKept (l ++ m)
 leaves_join [] m h i = i
@@ -166,10 +205,17 @@ module _ (t : Table) (names known was asked : List Name) (old new : List Entry) 
 
 -- ── the own cache as its caller goes on ──
 
--- a caller without acts keeps nothing
-pub own_none : (t : Table) (names asked : List Name) (c : ℕ) (log : List Entry) (cache : List (Option Kept)) → acts c log ≡ [] → ((k : ℕ) → kept_at cache k ≡ None) → IsOwnCache t names asked c log cache
-own_none t names asked c log cache none empty = record {
-  same = λ k. subst (λ (o : Option Kept). SameItem (option_map item_of o) (cache_of (acts c log) k)) (sym (empty k)) (subst (λ l. SameItem None (cache_of l k)) (sym none) tt);
+-- what is kept is true, whose ever it is
+pub own_true : (t : Table) (names asked : List Name) (c : ℕ) (past : Option (List Act)) (log : List Entry) (cache : List (Option Kept)) → IsOwnCache t names asked c past log cache → IsTrueCache t names asked c log cache
+own_true t names asked c past log cache own = record { same = tt; each = own.each }
+
+-- a machine that begins behind these entries keeps nothing
+pub own_none : (t : Table) (names asked : List Name) (c : ℕ) (log : List Entry) (cache : List (Option Kept)) → ((k : ℕ) → kept_at cache k ≡ None) → IsOwnCache t names asked c (Some (acts c log)) log cache
+own_none t names asked c log cache empty = record {
+  same = (
+    prefix_itself (acts c log),
+    λ k. subst (λ (o : Option Kept). SameItem (option_map item_of o) (cache_since (acts c log) (acts c log) k)) (sym (empty k)) (subst (λ (items : Items). SameItem None (items k)) (sym (since_itself (acts c log))) tt),
+  );
   each = λ k kept e. absurd (none-some kept (sym (empty k) ∙ e));
 }
 
@@ -206,59 +252,95 @@ put_same true kept item o i s h = s
 put_same false kept item o i s h = h
 
 -- what one act more makes of an own cache
-step_of : (t : Table) (names known was asked : List Name) (c : ℕ) (old new : List Entry) (a : Act) (cache left : List (Option Kept)) → acts c new ≡ acts c old ++ a ∷ []
-    → ((k : ℕ) → SameItem (items_in left k) (kept_by (acts c old) (cache_of (acts c old)) a k)) → ((k : ℕ) (kept : Kept) → kept_at left k ≡ Some kept → IsTrueCheck t known asked new kept)
-    → IsOwnCache t known asked c new left
-step_of t names known was asked c old new a cache left is same each = record { same = λ k. subst (λ (items : Items). SameItem (items_in left k) (items k)) (sym (cache_more c old new a is)) (same k); each = each }
+step_of : (t : Table) (known asked : List Name) (c : ℕ) (past : Option (List Act)) (old new : List Entry) (a : Act) (cache left : List (Option Kept)) → acts c new ≡ acts c old ++ a ∷ [] → AreOwn past (acts c old) (items_in cache)
+    → ((items : Items) → ((k : ℕ) → SameItem (items_in cache k) (items k)) → (k : ℕ) → SameItem (items_in left k) (kept_by (acts c old) items a k)) → ((k : ℕ) (kept : Kept) → kept_at left k ≡ Some kept → IsTrueCheck t known asked new kept)
+    → IsOwnCache t known asked c past new left
+step_of t known asked c None old new a cache left is own same each = record { same = tt; each = each }
+step_of t known asked c (Some past) old new a cache left is own same each = record {
+  same = (
+    prefix_more past (acts c old) (acts c new) own.0 (a ∷ [], sym is),
+    λ k. subst (λ (items : Items). SameItem (items_in left k) (items k)) (sym (cache_more c past old new a own.0 is)) (same (cache_since past (acts c old)) own.1 k),
+  );
+  each = each;
+}
 
-module _ (t : Table) (names known was asked : List Name) (c : ℕ) (old new : List Entry) (cache : List (Option Kept)) (longer : IsPrefix names known) (more : IsPrefix was asked) (own : IsOwnCache t names was c old cache) where
+stay_own : (c : ℕ) (past : Option (List Act)) (old new : List Entry) (made : List Act) (items : Items) → acts c new ≡ acts c old ++ made → LeavesKept made → AreOwn past (acts c old) items → AreOwn past (acts c new) items
+stay_own c None old new made items is leaves own = tt
+stay_own c (Some past) old new made items is leaves own = (
+  prefix_more past (acts c old) (acts c new) own.0 (made, sym is),
+  λ k. subst (λ (i : Items). SameItem (items k) (i k)) (sym (cache_stays c past old new made own.0 is leaves)) (own.1 k),
+)
+
+module _ (t : Table) (names known was asked : List Name) (c : ℕ) (past : Option (List Act)) (old new : List Entry) (cache : List (Option Kept)) (longer : IsPrefix names known) (more : IsPrefix was asked) (own : IsOwnCache t names was c past old cache) where
   -- it stays over longer fronts, with more names known and asked for, as long as its caller does nothing that changes it
-  pub own_stays : (made : List Act) → IsPrefix old new → acts c new ≡ acts c old ++ made → LeavesKept made → IsOwnCache t known asked c new cache
+  pub own_stays : (made : List Act) → IsPrefix old new → acts c new ≡ acts c old ++ made → LeavesKept made → IsOwnCache t known asked c past new cache
   own_stays made goes is leaves = record {
-    same = λ k. subst (λ (items : Items). SameItem (items_in cache k) (items k)) (sym (cache_stays c old new made is leaves)) (own.same k);
+    same = stay_own c past old new made (items_in cache) is leaves own.same;
     each = λ k kept e. check_on t names known was asked old new longer more goes kept (own.each k kept e);
   }
 
   -- so it does over what others do
-  pub own_learns : Learns c old new → IsOwnCache t known asked c new cache
+  pub own_learns : Learns c old new → IsOwnCache t known asked c past new cache
   own_learns learns = own_stays [] (learns_prefix c old new learns) (learns_acts c old new learns ∙ sym (append-nil (acts c old))) tt
 
   -- and over one act that leaves it
-  pub own_adds : (a : Act) → Adds c old new a → changes_kept a ≡ false → IsOwnCache t known asked c new cache
+  pub own_adds : (a : Act) → Adds c old new a → changes_kept a ≡ false → IsOwnCache t known asked c past new cache
   own_adds a adds leaves = own_stays (a ∷ []) (adds_prefix c old new a adds) (adds_act c old new a adds) (leaves, tt)
 
   -- its caller gave the key a type, and what used the key was dropped
-  pub own_retype : (key : KeyId) (site : TypeSite) (left : List (Option Kept)) → Adds c old new (Retype key site) → ((k : ℕ) → kept_at left k ≡ not_using key.0 (kept_at cache k)) → IsOwnCache t known asked c new left
-  own_retype key site left adds drops = step_of t names known was asked c old new (Retype key site) cache left (adds_act c old new (Retype key site) adds)
-      (λ k. subst (λ (o : Option Kept). SameItem (option_map item_of o) (unless_used key.0 (cache_of (acts c old) k))) (sym (drops k)) (dropped_same key.0 (kept_at cache k) (cache_of (acts c old) k) (own.same k)))
+  pub own_retype : (key : KeyId) (site : TypeSite) (left : List (Option Kept)) → Adds c old new (Retype key site) → ((k : ℕ) → kept_at left k ≡ not_using key.0 (kept_at cache k)) → IsOwnCache t known asked c past new left
+  own_retype key site left adds drops = step_of t known asked c past old new (Retype key site) cache left (adds_act c old new (Retype key site) adds) own.same
+      (λ items same k. subst (λ (o : Option Kept). SameItem (option_map item_of o) (unless_used key.0 (items k))) (sym (drops k)) (dropped_same key.0 (kept_at cache k) (items k) (same k)))
       (λ k kept e. check_on t names known was asked old new longer more (adds_prefix c old new (Retype key site) adds) kept (own.each k kept (still_kept key.0 (kept_at cache k) kept (sym (drops k) ∙ e))))
 
   -- its caller gave the key a definition, and what was kept for the key was dropped
-  pub own_define : (key : KeyId) (site : BodySite) (left : List (Option Kept)) → Adds c old new (Define key site) → ((k : ℕ) → kept_at left k ≡ (if eqb key.0 k then None else kept_at cache k)) → IsOwnCache t known asked c new left
-  own_define key site left adds drops = step_of t names known was asked c old new (Define key site) cache left (adds_act c old new (Define key site) adds)
-      (λ k. subst (λ (o : Option Kept). SameItem (option_map item_of o) (without_item key.0 (cache_of (acts c old)) k)) (sym (drops k)) (cleared_same (eqb key.0 k) (kept_at cache k) (cache_of (acts c old) k) (own.same k)))
+  pub own_define : (key : KeyId) (site : BodySite) (left : List (Option Kept)) → Adds c old new (Define key site) → ((k : ℕ) → kept_at left k ≡ (if eqb key.0 k then None else kept_at cache k)) → IsOwnCache t known asked c past new left
+  own_define key site left adds drops = step_of t known asked c past old new (Define key site) cache left (adds_act c old new (Define key site) adds) own.same
+      (λ items same k. subst (λ (o : Option Kept). SameItem (option_map item_of o) (without_item key.0 items k)) (sym (drops k)) (cleared_same (eqb key.0 k) (kept_at cache k) (items k) (same k)))
       (λ k kept e. check_on t names known was asked old new longer more (adds_prefix c old new (Define key site) adds) kept (own.each k kept (not_cleared (eqb key.0 k) (kept_at cache k) kept (sym (drops k) ∙ e))))
 
   -- its caller has a Call that brings a derivation, and a true check that says the same as the Holds which stand was put there
   pub own_put : (q : CallNo) (key : KeyId) (site : BodySite) (args : ArgKinds) (v : Verdict) (kept : Kept) (left : List (Option Kept)) → IsPrefix old new → acts c new ≡ acts c old ++ Call q key (Some site) args v ∷ [] → brings v ≡ true
-      → kept.key ≡ key → SaysSame (item_of kept) (item_by (stands c q.0 old) site) → IsTrueCheck t known asked new kept → ((k : ℕ) → kept_at left k ≡ (if eqb kept.key.0 k then Some kept else kept_at cache k)) → IsOwnCache t known asked c new left
-  own_put q key site args v kept left goes is new_one called says true_one puts = step_of t names known was asked c old new (Call q key (Some site) args v) cache left is
-      (λ k. subst (λ (o : Option Kept). SameItem (option_map item_of o) ((if brings v then with_item key.0 (item_by (stands c q.0 old) site) (cache_of (acts c old)) else cache_of (acts c old)) k)) (sym (puts k))
-      (subst (λ (b : Bool). SameItem (option_map item_of (if eqb kept.key.0 k then Some kept else kept_at cache k)) ((if b then with_item key.0 (item_by (stands c q.0 old) site) (cache_of (acts c old)) else cache_of (acts c old)) k)) (sym new_one)
-      (subst (λ (j : KeyId). SameItem (option_map item_of (if eqb kept.key.0 k then Some kept else kept_at cache k)) (with_item j.0 (item_by (stands c q.0 old) site) (cache_of (acts c old)) k)) called
-      (put_same (eqb kept.key.0 k) kept (item_by (stands c q.0 old) site) (kept_at cache k) (cache_of (acts c old) k) says (own.same k)))))
+      → kept.key ≡ key → SaysSame (item_of kept) (item_by (stands c q.0 old) site) → IsTrueCheck t known asked new kept → ((k : ℕ) → kept_at left k ≡ (if eqb kept.key.0 k then Some kept else kept_at cache k)) → IsOwnCache t known asked c past new left
+  own_put q key site args v kept left goes is new_one called says true_one puts = step_of t known asked c past old new (Call q key (Some site) args v) cache left is own.same
+      (λ items same k. subst (λ (o : Option Kept). SameItem (option_map item_of o) ((if brings v then with_item key.0 (item_by (stands c q.0 old) site) items else items) k)) (sym (puts k))
+      (subst (λ (b : Bool). SameItem (option_map item_of (if eqb kept.key.0 k then Some kept else kept_at cache k)) ((if b then with_item key.0 (item_by (stands c q.0 old) site) items else items) k)) (sym new_one)
+      (subst (λ (j : KeyId). SameItem (option_map item_of (if eqb kept.key.0 k then Some kept else kept_at cache k)) (with_item j.0 (item_by (stands c q.0 old) site) items k)) called
+      (put_same (eqb kept.key.0 k) kept (item_by (stands c q.0 old) site) (kept_at cache k) (items k) says (same k)))))
       (λ k x e. each (eqb kept.key.0 k) k x (sym (puts k) ∙ e))
     where
       each : (b : Bool) (k : ℕ) (x : Kept) → (if b then Some kept else kept_at cache k) ≡ Some x → IsTrueCheck t known asked new x
       each true k x e = subst (λ (y : Kept). IsTrueCheck t known asked new y) (same_Some kept x e) true_one
       each false k x e = check_on t names known was asked old new longer more goes x (own.each k x e)
 
-pub own_grows : (t : Table) (names known was asked : List Name) (c : ℕ) (old new : List Entry) (cache : List (Option Kept)) (g : Grows c known was asked old new) → IsPrefix names known → LeavesKept g.made → IsOwnCache t names was c old cache → IsOwnCache t known asked c new cache
-own_grows t names known was asked c old new cache g longer leaves own = own_stays t names known was asked c old new cache longer (grows_asked c known was asked old new g) own g.made g.kept g.grows leaves
+pub own_grows : (t : Table) (names known was asked : List Name) (c : ℕ) (past : Option (List Act)) (old new : List Entry) (cache : List (Option Kept)) (g : Grows c known was asked old new) → IsPrefix names known → LeavesKept g.made → IsOwnCache t names was c past old cache → IsOwnCache t known asked c past new cache
+own_grows t names known was asked c past old new cache g longer leaves own = own_stays t names known was asked c past old new cache longer (grows_asked c known was asked old new g) own g.made g.kept g.grows leaves
 
 -- it stays with more names known and asked for
-pub own_named : (t : Table) (names known was asked : List Name) (c : ℕ) (log : List Entry) (cache : List (Option Kept)) → IsPrefix names known → IsPrefix was asked → IsOwnCache t names was c log cache → IsOwnCache t known asked c log cache
-own_named t names known was asked c log cache longer more own = own_stays t names known was asked c log log cache longer more own [] (prefix_itself log) (sym (append-nil (acts c log))) tt
+pub own_named : (t : Table) (names known was asked : List Name) (c : ℕ) (past : Option (List Act)) (log : List Entry) (cache : List (Option Kept)) → IsPrefix names known → IsPrefix was asked → IsOwnCache t names was c past log cache → IsOwnCache t known asked c past log cache
+own_named t names known was asked c past log cache longer more own = own_stays t names known was asked c past log log cache longer more own [] (prefix_itself log) (sym (append-nil (acts c log))) tt
+
+-- what is true stays so behind longer fronts, whatever came
+pub true_on : (t : Table) (names known was asked : List Name) (c : ℕ) (old new : List Entry) (cache : List (Option Kept)) → IsPrefix names known → IsPrefix was asked → IsPrefix old new → IsTrueCache t names was c old cache → IsTrueCache t known asked c new cache
+true_on t names known was asked c old new cache longer more goes own = record { same = tt; each = λ k kept e. check_on t names known was asked old new longer more goes kept (own.each k kept e) }
+
+-- in two parts, one behind the other
+pub keeps_on : (t : Table) (c : ℕ) (names mid known was half asked : List Name) (a b d : List Entry) (x y z : List (Option Kept)) → IsPrefix b d → KeepsChecks t c names mid was half a b x y → KeepsChecks t c mid known half asked b d y z → KeepsChecks t c names known was asked a d x z
+keeps_on t c names mid known was half asked a b d x y z kept p q = record {
+  own = λ past own. q.own past (p.own past own);
+  ways = λ past own. each_on (EntersBy c past) c a b d kept (p.ways past own) (q.ways past (p.own (Some past) own));
+}
+
+-- it goes on to be so with more names known and asked for
+pub keeps_named : (t : Table) (c : ℕ) (names known was asked : List Name) (log : List Entry) (cache : List (Option Kept)) → IsPrefix names known → IsPrefix was asked → KeepsChecks t c names known was asked log log cache cache
+keeps_named t c names known was asked log cache longer more = record {
+  own = λ past own. own_named t names known was asked c past log cache longer more own;
+  ways = λ past own. each_itself (EntersBy c past) c log;
+}
+
+-- where nothing is done it is so
+pub keeps_itself : (t : Table) (c : ℕ) (names asked : List Name) (log : List Entry) (cache : List (Option Kept)) → KeepsChecks t c names names asked asked log log cache cache
+keeps_itself t c names asked log cache = keeps_named t c names names asked asked log cache (prefix_itself names) (prefix_itself asked)
 
 -- ── the types of a kept check that agrees ──
 
@@ -309,17 +391,17 @@ each_tells log kept (s ∷ seen) tells h = (tells s.key.0 s.changes h.0, each_te
 own_count : (kept : Kept) → count_of kept kept.key.0 ≡ Some kept.changes
 own_count kept = ap (λ b. if b then Some kept.changes else count_in kept.counts.items kept.key.0) (eq-eqb kept.key.0 kept.key.0 refl)
 
-module _ (t : Table) (names asked : List Name) (c k : ℕ) (log : List Entry) (cache : List (Option Kept)) (own : IsOwnCache t names asked c log cache) where
+module _ (t : Table) (names asked : List Name) (c : ℕ) (past : List Act) (k : ℕ) (log : List Entry) (cache : List (Option Kept)) (own : IsOwnCache t names asked c (Some past) log cache) where
   -- what is kept for the key agrees: an own check agrees
-  pub hit_agrees : IsHit cache k log → OwnAgrees c k log
+  pub hit_agrees : IsHit cache k log → OwnAgrees c past k log
   hit_agrees h =
-      let s = same_some (item_of h.kept) (cache_of (acts c log) k) (subst (λ (o : Option Kept). SameItem (option_map item_of o) (cache_of (acts c log) k)) h.there (own.same k)) in
+      let s = same_some (item_of h.kept) (cache_since past (acts c log) k) (subst (λ (o : Option Kept). SameItem (option_map item_of o) (cache_since past (acts c log) k)) h.there (own.same.1 k)) in
       record { item = s.0; kept = s.1; agrees = record { body = h.body ∙ ap Some s.2.body; counts = λ j n e. count_tells log h.kept h.own h.counts j n (s.2.counts j ∙ e) } }
 
   -- and the other way round
-  pub agrees_hits : OwnAgrees c k log → IsHit cache k log
+  pub agrees_hits : OwnAgrees c past k log → IsHit cache k log
   agrees_hits a =
-      let s = some_same (kept_at cache k) a.item (subst (λ (o : Option Item). SameItem (items_in cache k) o) a.kept (own.same k)) in
+      let s = some_same (kept_at cache k) a.item (subst (λ (o : Option Item). SameItem (items_in cache k) o) a.kept (own.same.1 k)) in
       let tells : (j n : ℕ) → count_of s.0 j ≡ Some n → (spot j log).changes ≡ n = λ j n e. a.agrees.counts j n (sym (s.2.counts j) ∙ e) in
       record {
         kept = s.0;
@@ -330,19 +412,19 @@ module _ (t : Table) (names asked : List Name) (c k : ℕ) (log : List Entry) (c
       }
 
   -- nothing is kept for the key
-  pub unkept_differs : kept_at cache k ≡ None → OwnAgrees c k log → ⊥
+  pub unkept_differs : kept_at cache k ≡ None → OwnAgrees c past k log → ⊥
   unkept_differs none a = let h = agrees_hits a in none-some h.kept (sym none ∙ h.there)
 
   -- what is kept is of another body
-  pub body_differs : (kept : Kept) → kept_at cache k ≡ Some kept → ((spot k log).body ≡ Some kept.derivation.body → ⊥) → OwnAgrees c k log → ⊥
+  pub body_differs : (kept : Kept) → kept_at cache k ≡ Some kept → ((spot k log).body ≡ Some kept.derivation.body → ⊥) → OwnAgrees c past k log → ⊥
   body_differs kept there other a = let h = agrees_hits a in other (subst (λ (x : Kept). (spot k log).body ≡ Some x.derivation.body) (same_Some h.kept kept (sym h.there ∙ there)) h.body)
 
   -- the key's type was changed since
-  pub own_differs : (kept : Kept) → kept_at cache k ≡ Some kept → ((spot kept.key.0 log).changes ≡ kept.changes → ⊥) → OwnAgrees c k log → ⊥
+  pub own_differs : (kept : Kept) → kept_at cache k ≡ Some kept → ((spot kept.key.0 log).changes ≡ kept.changes → ⊥) → OwnAgrees c past k log → ⊥
   own_differs kept there other a = let h = agrees_hits a in other (subst (λ (x : Kept). (spot x.key.0 log).changes ≡ x.changes) (same_Some h.kept kept (sym h.there ∙ there)) h.own)
 
   -- the type of a use was changed since
-  pub count_differs : (kept : Kept) (s : Seen) (first rest : List Seen) → kept_at cache k ≡ Some kept → kept.counts.items ≡ first ++ s ∷ rest → ((spot s.key.0 log).changes ≡ s.changes → ⊥) → OwnAgrees c k log → ⊥
+  pub count_differs : (kept : Kept) (s : Seen) (first rest : List Seen) → kept_at cache k ≡ Some kept → kept.counts.items ≡ first ++ s ∷ rest → ((spot s.key.0 log).changes ≡ s.changes → ⊥) → OwnAgrees c past k log → ⊥
   count_differs kept s first rest there among other a =
       let h = agrees_hits a in
       other (middle first (subst (λ (l : List Seen). AllByRecursion (λ s. (spot s.key.0 log).changes ≡ s.changes) l) among (subst (λ (x : Kept). AllByRecursion (λ s. (spot s.key.0 log).changes ≡ s.changes) x.counts.items) (same_Some h.kept kept (sym h.there ∙ there)) h.counts)))

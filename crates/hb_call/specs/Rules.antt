@@ -172,36 +172,35 @@ HasName names (Define key site) = key.0 < length names
 HasName names (WornDef key) = key.0 < length names
 HasName names (Call q key site args verdict) = Unit {0}
 
--- a body is entered by the caller's own check exactly where there is one that agrees, and else by a fresh one
-abbrev pub IsWay : ℕ → ℕ → List Entry → By → Type 0
-IsWay c k before by.Own = OwnAgrees c k before
-IsWay c k before by.Fresh = OwnAgrees c k before → ⊥
-IsWay c k before by.Shared = ⊥
+-- A body is entered by an own check exactly where there is one that agrees, and else by a fresh one. Own are the checks of the caller's machine, before whose acts these stand.
+abbrev pub IsWay : ℕ → (past : List Act) → ℕ → List Entry → By → Type 0
+IsWay c past k before by.Own = OwnAgrees c past k before
+IsWay c past k before by.Fresh = OwnAgrees c past k before → ⊥
+IsWay c past k before by.Shared = ⊥
 
 -- the way of a verdict that enters is the right one
-abbrev pub IsRightWay : ℕ → ℕ → List Entry → Verdict → Type 0
-IsRightWay c k before (verdict.Enter way) = IsWay c k before way
-IsRightWay c k before verdict.NoBody = Unit {0}
-IsRightWay c k before verdict.NoType = Unit {0}
-IsRightWay c k before verdict.BadArgs = Unit {0}
-IsRightWay c k before (verdict.IllTyped f) = Unit {0}
+abbrev pub IsRightWay : ℕ → (past : List Act) → ℕ → List Entry → Verdict → Type 0
+IsRightWay c past k before (verdict.Enter way) = IsWay c past k before way
+IsRightWay c past k before verdict.NoBody = Unit {0}
+IsRightWay c past k before verdict.NoType = Unit {0}
+IsRightWay c past k before verdict.BadArgs = Unit {0}
+IsRightWay c past k before (verdict.IllTyped f) = Unit {0}
 
--- a Call that enters does so by the caller's own check exactly where there is one that agrees
-abbrev pub EntersBy : ℕ → List Entry → Act → Type 0
-EntersBy c before (Call q key site args v) = IsRightWay c key.0 before v
-EntersBy c before (Hold q key ty changes) = Unit {0}
-EntersBy c before (Free q key) = Unit {0}
-EntersBy c before (Retype key site) = Unit {0}
-EntersBy c before (Busy key pins) = Unit {0}
-EntersBy c before (WornType key) = Unit {0}
-EntersBy c before (Define key site) = Unit {0}
-EntersBy c before (WornDef key) = Unit {0}
+-- a Call that enters does so by an own check exactly where there is one that agrees
+abbrev pub EntersBy : ℕ → (past : List Act) → List Entry → Act → Type 0
+EntersBy c past before (Call q key site args v) = IsRightWay c past key.0 before v
+EntersBy c past before (Hold q key ty changes) = Unit {0}
+EntersBy c past before (Free q key) = Unit {0}
+EntersBy c past before (Retype key site) = Unit {0}
+EntersBy c past before (Busy key pins) = Unit {0}
+EntersBy c past before (WornType key) = Unit {0}
+EntersBy c past before (Define key site) = Unit {0}
+EntersBy c past before (WornDef key) = Unit {0}
 
--- A Call is decided as its row says and enters by its caller's own check exactly where one agrees, keys are those of names and are held in the order of the looks, and are given back in a retreat or at the end alone.
+-- A Call is decided as its row says, keys are those of names and are held in the order of the looks, and are given back in a retreat or at the end alone. Which check a Call enters by is a rule of its own.
 pub record FitsRules (t : Table) (names : List Name) (c : ℕ) (before : List Entry) (a : Act) : Type 0 where
   pub row : FitsCall t names c before a
   pub hold : FitsHold t names c before a
   pub free : FitsFree t names c before a
   pub whole : FitsWhole c before a
   pub named : HasName names a
-  pub entered : EntersBy c before a

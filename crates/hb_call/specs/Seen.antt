@@ -2,6 +2,7 @@
 use Rattle.std.specs.Prelude.{ℕ, ◌<◌, ◌≤◌, Option, List, ◌++◌, vec_len, vec_capacity}
 use Rattle.hb_names.specs.Names.{Name}
 use Rattle.hb_tables.specs.declared.entry.Entry.{Entry}
+use Rattle.hb_tables.specs.declared.entry.Act.{Act}
 use Rattle.hb_tables.specs.Answers.{Fixed}
 use Rattle.hb_call.specs.declared.answers.Answer.{Answer}
 use Rattle.hb_call.specs.declared.call.Call.{Call}
@@ -20,9 +21,9 @@ moment_of front known asked s = record { known = known s.names.now; asked = aske
 abbrev pub IsUnderWay : {D N : Type 0} → (D → Fixed) → (D → List Entry) → (N → List Name) → (N → List Name) → Call D N → Type 0
 IsUnderWay fixed front known asked s = IsCalling s.prog.now (fixed s.desk.now) s.q.0 (known s.names.now) (asked s.names.now) (front s.desk.now) s.key s.own s.held.now.items (s.compared.now.items ++ s.answers.now.items)
 
--- what is kept is the caller's own
-abbrev pub KeepsOwn : {D N : Type 0} → (D → Fixed) → (D → List Entry) → (N → List Name) → (N → List Name) → Call D N → Type 0
-KeepsOwn fixed front known asked s = IsOwnCache s.prog.now (known s.names.now) (asked s.names.now) (fixed s.desk.now).caller (front s.desk.now) s.cache.now
+-- what is kept is true, and the machine's own where it is told which acts stand before its own
+abbrev pub KeepsOwn : {D N : Type 0} → Option (List Act) → (D → Fixed) → (D → List Entry) → (N → List Name) → (N → List Name) → Call D N → Type 0
+KeepsOwn past fixed front known asked s = IsOwnCache s.prog.now (known s.names.now) (asked s.names.now) (fixed s.desk.now).caller past (front s.desk.now) s.cache.now
 
 -- it holds its own key first, and each key that it holds has an answer, whoever had it
 abbrev pub IsHolding : {D N : Type 0} → (D → Fixed) → (D → List Entry) → (N → List Name) → (N → List Name) → Call D N → Type 0

@@ -1,5 +1,6 @@
 -- What a share collects of the checks that calls make.
 use Rattle.std.specs.Prelude.{◌≡◌, ℕ, ◌<◌, ◌≤◌, List, [], ◌∷◌, ◌++◌, length, Option, Some, None, Result, Ok, Err, Contains}
+use Rattle.hb_types.specs.declared.ids.BodySite.{BodySite}
 use Rattle.hb_types.specs.declared.ids.TypeSite.{TypeSite}
 use Rattle.hb_tree.specs.Table.{Table}
 use Rattle.hb_deriv.specs.declared.raw.Used.{Used}
@@ -47,11 +48,12 @@ abbrev pub FoundUses : Table → List Name → List Stand → List Used → Type
 FoundUses t names hs [] = Unit {0}
 FoundUses t names hs (u ∷ uses) = ((k : ℕ) × (place names (name_of t (key_of u)) ≡ Some k) × Found hs k u.site) × FoundUses t names hs uses
 
--- A copy of the derivation that is kept for the key, and is of its method, comes last. Its sites are those that the Holds that stand found.
-pub record CollectsOne (t : Table) (names : List Name) (hs : List Stand) (cache : List (Option Kept)) (k : ℕ) (old : List Derivation) (new : Option (List Derivation)) : Type 0 where
+-- A copy of the derivation that is kept for the key, and is of its method, comes last. It is of this body, and its sites are those that the Holds that stand found.
+pub record CollectsOne (t : Table) (names : List Name) (hs : List Stand) (cache : List (Option Kept)) (k : ℕ) (site : BodySite) (old : List Derivation) (new : Option (List Derivation)) : Type 0 where
   pub kept : Kept
   pub at : kept_at cache k ≡ Some kept
   pub key : kept.key.0 ≡ k
+  pub body : kept.derivation.body ≡ site
   pub copy : Derivation
   pub same : IsCopy kept.derivation copy
   pub last : new ≡ Some (old ++ copy ∷ [])
@@ -59,13 +61,13 @@ pub record CollectsOne (t : Table) (names : List Name) (hs : List Stand) (cache 
   pub uses : FoundUses t names hs copy.uses.items
 
 -- where fewer are collected than may be, one comes
-abbrev pub CollectsFew : Table → List Name → List Stand → List (Option Kept) → ℕ → Option (List Derivation) → Option (List Derivation) → Type 0
-CollectsFew t names hs cache k None new = new ≡ None
-CollectsFew t names hs cache k (Some old) new = ((length old < COLLECTED_MAX) → CollectsOne t names hs cache k old new) × ((COLLECTED_MAX ≤ length old) → new ≡ Some old)
+abbrev pub CollectsFew : Table → List Name → List Stand → List (Option Kept) → ℕ → BodySite → Option (List Derivation) → Option (List Derivation) → Type 0
+CollectsFew t names hs cache k site None new = new ≡ None
+CollectsFew t names hs cache k site (Some old) new = ((length old < COLLECTED_MAX) → CollectsOne t names hs cache k site old new) × ((COLLECTED_MAX ≤ length old) → new ≡ Some old)
 
 -- a call that was checked afresh adds its derivation, and all others leave what was collected
 abbrev pub Collects : Table → List Name → List Stand → List (Option Kept) → Share → Share → Result Entered CallFail → Type 0
-Collects t names hs cache old new (Ok (entered.Frame f by.Fresh)) = CollectsFew t names hs cache f.key.0 (collected old) (collected new)
+Collects t names hs cache old new (Ok (entered.Frame f by.Fresh)) = CollectsFew t names hs cache f.key.0 f.body (collected old) (collected new)
 Collects t names hs cache old new (Ok (entered.Frame f by.Own)) = collected new ≡ collected old
 Collects t names hs cache old new (Ok (entered.Frame f by.Shared)) = collected new ≡ collected old
 Collects t names hs cache old new (Ok (entered.Refused v)) = collected new ≡ collected old

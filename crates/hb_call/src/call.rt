@@ -1,11 +1,12 @@
 //! A call that is being decided.
 
-ghost use Rattle.std.specs.Prelude.{◌≡◌, ◌<◌, ◌≤◌, ℕ, length, List, [], ◌∷◌, ◌++◌, None, Some, IfErr, IfOk, IfSome, IsErrOf, OnErr, OnOk};
+ghost use Rattle.std.specs.Prelude.{◌≡◌, ◌<◌, ◌≤◌, ℕ, length, List, [], ◌∷◌, ◌++◌, Option, None, Some, IfErr, IfOk, IfSome, IsErrOf, OnErr, OnOk};
 ghost use Rattle.hb_types.specs.Types.{IsMethodTy};
 ghost use Rattle.hb_types.specs.declared.ids.ClassId.{ClassId};
 ghost use Rattle.hb_types.specs.declared.ids.NameId.{NameId};
 ghost use Rattle.hb_check.specs.Asked.{asked};
 ghost use Rattle.hb_names.specs.Names.{IsFull, place};
+ghost use Rattle.hb_tables.specs.declared.entry.Act.{Act};
 ghost use Rattle.hb_tables.specs.History.{IsLegal};
 ghost use Rattle.hb_tables.specs.Names.{name_of};
 ghost use Rattle.hb_tables.specs.Rows.{kinds_of};
@@ -13,6 +14,8 @@ ghost use Rattle.hb_tables.specs.Verdicts.{takes};
 ghost use Rattle.hb_call.specs.Held.{Holds, frees};
 ghost use Rattle.hb_tables.specs.declared.entry.Entry.{Entry};
 ghost use Rattle.hb_tables.specs.Frames.{acts};
+ghost use Rattle.hb_call.specs.Growth.{EachNew};
+ghost use Rattle.hb_call.specs.Rules.{EntersBy};
 ghost use Rattle.hb_call.specs.Calling.{FitsSince, Grew, HasBody, HasLooked, IsArgKinds, IsAskedFor, IsCalling, IsHeldFrom, IsLive, IsRefusedRightly, IsSame, MayRetreat, StaysUnfit, Went, answers_of, held_among};
 ghost use Rattle.hb_call.specs.Comparing.{AsksNoMore, EndsAsking, MarksKept};
 ghost use Rattle.hb_call.specs.Deciding.{Decided, IsOwnBehind, site_by, verdict_by};
@@ -66,7 +69,7 @@ impl<D: Desk, N: Names> Call<'_, '_, '_, '_, D, N> {
         requires args { IsArgKinds self.old.args }
         requires fresh { (self.old.answers.now.items ≡ []) × (self.old.compared.now.items ≡ []) × (self.old.refused ≡ None) }
         requires named { (bytes : List ℕ) × (place (N.known self.old.names.now) (self.old.class.0, bytes) ≡ Some self.old.key.0) }
-        requires own { KeepsOwn D.fixed D.front N.known N.asked self.old }
+        requires own { KeepsOwn None D.fixed D.front N.known N.asked self.old }
         requires few { length (N.known self.old.names.now) ≤ NAMES_MAX }
         requires looked { HasLooked (D.fixed self.old.desk.now).caller self.old.q self.old.key first (D.front self.old.desk.now) }
         ensures same { IsSame (given_of D.fixed self.old) (given_of D.fixed self.new) }
@@ -79,7 +82,8 @@ impl<D: Desk, N: Names> Call<'_, '_, '_, '_, D, N> {
         ensures holds { Holds (D.fixed self.new.desk.now).caller self.new.q.0 self.new.held.now.items (D.front self.new.desk.now) }
         ensures first { (others : List KeyId) × (self.new.held.now.items ≡ self.new.key ∷ others) }
         ensures decided { IfOk result (λ r. Decided (given_of D.fixed self.new) (N.known self.new.names.now) (D.front self.old.desk.now) (D.front self.new.desk.now) (verdict_by r) (site_by r)) }
-        ensures own { IsOwnBehind (given_of D.fixed self.new) (N.known self.new.names.now) (N.asked self.new.names.now) (D.front self.new.desk.now) self.new.held.now.items self.new.answers.now.items result }
+        ensures own { (past : Option (List Act)) → KeepsOwn past D.fixed D.front N.known N.asked self.old → IsOwnBehind (given_of D.fixed self.new) past (N.known self.new.names.now) (N.asked self.new.names.now) (D.front self.new.desk.now) self.new.held.now.items self.new.answers.now.items result }
+        ensures ways { (past : List Act) → KeepsOwn (Some past) D.fixed D.front N.known N.asked self.old → EachNew (EntersBy (D.fixed self.old.desk.now).caller past) (D.fixed self.old.desk.now).caller (D.front self.old.desk.now) (D.front self.new.desk.now) }
         ensures asks { IfOk result (AsksNoMore (given_of D.fixed self.old) (moment_of D.front N.known N.asked self.old) (moment_of D.front N.known N.asked self.new)) }
         ensures full { IfErr result (IsFullFor (given_of D.fixed self.new) (N.known self.new.names.now)) }
         ensures rightly { IfErr result (IsRightlyFor self.new.prog.now (N.known self.new.names.now) (D.fixed self.new.desk.now).caller self.new.q self.new.key (D.front self.new.desk.now)) }
@@ -108,7 +112,7 @@ impl<D: Desk, N: Names> Call<'_, '_, '_, '_, D, N> {
         requires args { IsArgKinds self.old.args }
         requires fresh { (self.old.answers.now.items ≡ []) × (self.old.compared.now.items ≡ []) × (self.old.refused ≡ None) }
         requires named { (bytes : List ℕ) × (place (N.known self.old.names.now) (self.old.class.0, bytes) ≡ Some self.old.key.0) }
-        requires own { KeepsOwn D.fixed D.front N.known N.asked self.old }
+        requires own { KeepsOwn None D.fixed D.front N.known N.asked self.old }
         requires few { length (N.known self.old.names.now) ≤ NAMES_MAX }
         requires looked { HasLooked (D.fixed self.old.desk.now).caller self.old.q self.old.key first (D.front self.old.desk.now) }
         ensures desk { self.new.desk.ghost_name ≡ self.old.desk.ghost_name }
@@ -118,10 +122,11 @@ impl<D: Desk, N: Names> Call<'_, '_, '_, '_, D, N> {
         ensures fixed { D.fixed self.new.desk.now ≡ D.fixed self.old.desk.now }
         ensures went { Went (given_of D.fixed self.old) (moment_of D.front N.known N.asked self.old) (moment_of D.front N.known N.asked self.new) }
         ensures grew { IsTold result → Grew (given_of D.fixed self.old) (moment_of D.front N.known N.asked self.old) (moment_of D.front N.known N.asked self.new) }
+        ensures ways { (past : List Act) → KeepsOwn (Some past) D.fixed D.front N.known N.asked self.old → EachNew (EntersBy (D.fixed self.old.desk.now).caller past) (D.fixed self.old.desk.now).caller (D.front self.old.desk.now) (D.front self.new.desk.now) }
         ensures finished { Finished (given_of D.fixed self.old) (N.known self.new.names.now) (D.front self.old.desk.now) (D.front self.new.desk.now) result }
         ensures ended { IfOk result (IsEndedWell (D.fixed self.old.desk.now).caller self.old.q (D.front self.new.desk.now)) }
         ensures asks { IfOk result (EndsAsking (given_of D.fixed self.old) (moment_of D.front N.known N.asked self.old) (moment_of D.front N.known N.asked self.new)) }
-        ensures own { IsOwnAtEnd (given_of D.fixed self.old) (N.known self.new.names.now) (N.asked self.new.names.now) (D.front self.new.desk.now) self.new.answers.now.items result }
+        ensures own { (past : Option (List Act)) → KeepsOwn past D.fixed D.front N.known N.asked self.old → IsOwnAtEnd (given_of D.fixed self.old) past (N.known self.new.names.now) (N.asked self.new.names.now) (D.front self.new.desk.now) self.new.answers.now.items result }
     {
         match self.decide(alloc, first) {
             Ok(Ruling::Kept(body)) => Ok(Ended::Own(self.frame(alloc, body))),
@@ -160,7 +165,7 @@ impl<D: Desk, N: Names> Call<'_, '_, '_, '_, D, N> {
         requires args { IsArgKinds self.old.args }
         requires fresh { (self.old.answers.now.items ≡ []) × (self.old.compared.now.items ≡ []) × (self.old.refused ≡ None) }
         requires named { (bytes : List ℕ) × (place (N.known self.old.names.now) (self.old.class.0, bytes) ≡ Some self.old.key.0) }
-        requires own { KeepsOwn D.fixed D.front N.known N.asked self.old }
+        requires own { KeepsOwn None D.fixed D.front N.known N.asked self.old }
         requires few { length (N.known self.old.names.now) ≤ NAMES_MAX }
         requires defined { HasBody (D.fixed self.old.desk.now).caller self.old.q self.old.key site (D.front self.old.desk.now) }
         ensures holding { IsHolding D.fixed D.front N.known N.asked self.new }

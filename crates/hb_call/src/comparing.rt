@@ -63,7 +63,7 @@ impl<D: Desk, N: Names> Call<'_, '_, '_, '_, D, N> {
         requires named { (bytes : List ℕ) × (place (N.known self.old.names.now) (self.old.class.0, bytes) ≡ Some self.old.key.0) }
         requires takes { TakesArgs (given_of D.fixed self.old) }
         requires defined { HasBody (D.fixed self.old.desk.now).caller self.old.q self.old.key (Some body) (D.front self.old.desk.now) }
-        requires own { KeepsOwn D.fixed D.front N.known N.asked self.old }
+        requires own { KeepsOwn None D.fixed D.front N.known N.asked self.old }
         requires few { length (N.known self.old.names.now) ≤ NAMES_MAX }
         requires fresh { (self.old.answers.now.items ≡ []) × (self.old.compared.now.items ≡ []) × (self.old.refused ≡ None) }
         ensures ended { HasEnded (given_of D.fixed self.old) (given_of D.fixed self.new) (moment_of D.front N.known N.asked self.old) (moment_of D.front N.known N.asked self.new) self.new.held.now.items self.new.compared.now.items body result }
@@ -87,7 +87,7 @@ impl<D: Desk, N: Names> Call<'_, '_, '_, '_, D, N> {
         requires named { (bytes : List ℕ) × (place (N.known self.old.names.now) (self.old.class.0, bytes) ≡ Some self.old.key.0) }
         requires takes { TakesArgs (given_of D.fixed self.old) }
         requires defined { HasBody (D.fixed self.old.desk.now).caller self.old.q self.old.key (Some kept.now.derivation.body) (D.front self.old.desk.now) }
-        requires own { KeepsOwn D.fixed D.front N.known N.asked self.old }
+        requires own { KeepsOwn None D.fixed D.front N.known N.asked self.old }
         requires few { length (N.known self.old.names.now) ≤ NAMES_MAX }
         requires fresh { (self.old.answers.now.items ≡ []) × (self.old.compared.now.items ≡ []) × (self.old.refused ≡ None) }
         requires kept { kept_at self.old.cache.now self.old.key.0 ≡ Some kept.now }

@@ -9,7 +9,7 @@ ghost use Rattle.hb_call.specs.Calling.{IsArgKinds};
 ghost use Rattle.hb_call.specs.Entering.{Enters, IsFramed, IsTold, MarksOnce};
 ghost use Rattle.hb_call.specs.Growth.{Grown};
 ghost use Rattle.hb_call.specs.Held.{HasRoom, stands};
-ghost use Rattle.hb_call.specs.OwnCache.{IsOwnCache};
+ghost use Rattle.hb_call.specs.OwnCache.{IsTrueCache, KeepsChecks};
 ghost use Rattle.hb_call.specs.Sharing.{Collects};
 
 use crate::call::Call;
@@ -41,7 +41,7 @@ pub fn enter<D: Desk, N: Names>(
     requires args { IsArgKinds args }
     requires unused { stands (D.fixed desk.old).caller q.0 (D.front desk.old) ≡ [] }
     requires room { HasRoom (D.front desk.old) (D.fixed desk.old).caller q.0 }
-    requires cache { IsOwnCache prog.now (N.known names.old) (N.asked names.old) (D.fixed desk.old).caller (D.front desk.old) cache.old }
+    requires cache { IsTrueCache prog.now (N.known names.old) (N.asked names.old) (D.fixed desk.old).caller (D.front desk.old) cache.old }
     ensures entered { Enters (record { t = prog.now; door = D.fixed desk.old; q = q; class = class; bytes = bytes_at prog.now.names name.0; args = args }) (N.known names.new) (D.front desk.old) (D.front desk.new) result }
     ensures framed { IfOk result (IsFramed (D.fixed desk.old).caller q (D.front desk.new)) }
     ensures kept { IsPrefix (D.front desk.old) (D.front desk.new) }
@@ -53,7 +53,8 @@ pub fn enter<D: Desk, N: Names>(
     ensures fixed { D.fixed desk.new ≡ D.fixed desk.old }
     ensures grown { IsTold result → Grown prog.now (D.fixed desk.old).caller (N.known names.new) (N.asked names.old) (N.asked names.new) (D.front desk.old) (D.front desk.new) }
     ensures others { (p : ℕ) → (p ≡ q.0 → ⊥) → stands (D.fixed desk.old).caller p (D.front desk.new) ≡ stands (D.fixed desk.old).caller p (D.front desk.old) }
-    ensures cache { IsTold result → IsOwnCache prog.now (N.known names.new) (N.asked names.new) (D.fixed desk.old).caller (D.front desk.new) cache.new }
+    ensures cache { IsTrueCache prog.now (N.known names.new) (N.asked names.new) (D.fixed desk.old).caller (D.front desk.new) cache.new }
+    ensures own { IsTold result → KeepsChecks prog.now (D.fixed desk.old).caller (N.known names.old) (N.known names.new) (N.asked names.old) (N.asked names.new) (D.front desk.old) (D.front desk.new) cache.old cache.new }
     ensures marks { MarksOnce (record { t = prog.now; door = D.fixed desk.old; q = q; class = class; bytes = bytes_at prog.now.names name.0; args = args }) (N.asked names.old) (N.asked names.new) (D.front desk.old) (D.front desk.new) result }
     ensures collects { Collects prog.now (N.known names.new) (stands (D.fixed desk.old).caller q.0 (D.front desk.new)) cache.new share.old share.new result }
 {

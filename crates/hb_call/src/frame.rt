@@ -2,7 +2,7 @@
 
 ghost use Rattle.std.specs.Prelude.{◌≡◌, ℕ, Option, List, [], ◌++◌};
 ghost use Rattle.hb_cache.specs.declared.kept.Kept.{Kept};
-ghost use Rattle.hb_call.specs.OwnCache.{IsOwnCache};
+ghost use Rattle.hb_call.specs.OwnCache.{KeepsChecks};
 ghost use mathlib.Core.List.{IsPrefix};
 ghost use Rattle.hb_tables.specs.Frames.{acts};
 ghost use Rattle.hb_tables.specs.History.{IsLegal};
@@ -106,7 +106,7 @@ pub fn leave<D: Desk>(frame: Frame, desk: &mut D)
     ensures legal { IsLegal (D.fixed desk.old).limit (D.front desk.old) → IsLegal (D.fixed desk.old).limit (D.front desk.new) }
     ensures others { (p : ℕ) → (p ≡ frame.q.0 → ⊥) → stands (D.fixed desk.old).caller p (D.front desk.new) ≡ stands (D.fixed desk.old).caller p (D.front desk.old) }
     ensures grown { (t : Table) (names asked : List Name) → HasCall (D.fixed desk.old).caller frame.q.0 (D.front desk.old) → Grown t (D.fixed desk.old).caller names asked asked (D.front desk.old) (D.front desk.new) }
-    ensures own { (t : Table) (names asked : List Name) (cache : List (Option Kept)) → IsOwnCache t names asked (D.fixed desk.old).caller (D.front desk.old) cache → IsOwnCache t names asked (D.fixed desk.old).caller (D.front desk.new) cache }
+    ensures own { (t : Table) (names asked : List Name) (cache : List (Option Kept)) → KeepsChecks t (D.fixed desk.old).caller names names asked asked (D.front desk.old) (D.front desk.new) cache cache }
     ensures fixed { D.fixed desk.new ≡ D.fixed desk.old }
 {
     free_keys(desk, frame.q, &frame.held);
@@ -121,7 +121,7 @@ pub fn leave_lent<D: Desk>(frame: Frame, desk: &mut D, cache: &mut Cache)
     ensures legal { IsLegal (D.fixed desk.old).limit (D.front desk.old) → IsLegal (D.fixed desk.old).limit (D.front desk.new) }
     ensures others { (p : ℕ) → (p ≡ frame.q.0 → ⊥) → stands (D.fixed desk.old).caller p (D.front desk.new) ≡ stands (D.fixed desk.old).caller p (D.front desk.old) }
     ensures grown { (t : Table) (names asked : List Name) → HasCall (D.fixed desk.old).caller frame.q.0 (D.front desk.old) → Grown t (D.fixed desk.old).caller names asked asked (D.front desk.old) (D.front desk.new) }
-    ensures own { (t : Table) (names asked : List Name) (cache : List (Option Kept)) → IsOwnCache t names asked (D.fixed desk.old).caller (D.front desk.old) cache → IsOwnCache t names asked (D.fixed desk.old).caller (D.front desk.new) cache }
+    ensures own { (t : Table) (names asked : List Name) (cache : List (Option Kept)) → KeepsChecks t (D.fixed desk.old).caller names names asked asked (D.front desk.old) (D.front desk.new) cache cache }
     ensures fixed { D.fixed desk.new ≡ D.fixed desk.old }
     ensures cache { cache.new ≡ cache.old }
 {

@@ -1,14 +1,15 @@
 //! What is kept of a call that was decided.
 
-ghost use Rattle.std.specs.Prelude.{◌≡◌, List, map, Ok, IfErr, IfOk, OnErr, OnOk};
+ghost use Rattle.std.specs.Prelude.{◌≡◌, ◌⊎◌, List, map, Option, None, Ok, IfErr, IfOk, OnErr, OnOk};
 ghost use mathlib.Core.List.{IsPrefix};
 ghost use Rattle.hb_names.specs.Names.{Name};
+ghost use Rattle.hb_tables.specs.declared.entry.Act.{Act};
 ghost use Rattle.hb_tables.specs.History.{IsLegal};
 ghost use Rattle.hb_call.specs.Calling.{Given};
 ghost use Rattle.hb_call.specs.Entering.{IsOwnAtEnd, IsUndone, MayUndo, entered_of};
 ghost use Rattle.hb_call.specs.Held.{stands};
 ghost use Rattle.hb_call.specs.Keeping.{IsPut, Shares, seen_of};
-ghost use Rattle.hb_call.specs.OwnCache.{IsOwnCache};
+ghost use Rattle.hb_call.specs.OwnCache.{IsOwnCache, IsTrueCache};
 ghost use Rattle.hb_call.specs.Sharing.{Collects, collected};
 
 use crate::answers::Answer;
@@ -36,10 +37,12 @@ pub fn keep<D: Desk>(
     requires held { MayUndo (D.fixed desk.old).caller (D.front desk.old) ended }
     ensures done { IfOk result (λ e. (e ≡ entered_of ended) × (D.front desk.new ≡ D.front desk.old)) }
     ensures undone { IfErr result (λ e. (e ≡ CallFail.NoMemory) × IsUndone (D.fixed desk.old).caller (D.front desk.old) (D.front desk.new) ended) }
-    ensures own { (g : Given) (known asked : List Name) → g.door ≡ D.fixed desk.old → g.own ≡ own → g.cache ≡ cache.old
-        → IsOwnAtEnd g known asked (D.front desk.old) answers.now (Ok ended) → OnOk result (IsOwnCache g.t known asked g.door.caller (D.front desk.new) cache.new) }
+    ensures own { (g : Given) (past : Option (List Act)) (known asked : List Name) → g.door ≡ D.fixed desk.old → g.own ≡ own → g.cache ≡ cache.old
+        → IsOwnAtEnd g past known asked (D.front desk.old) answers.now (Ok ended) → OnOk result (IsOwnCache g.t known asked g.door.caller past (D.front desk.new) cache.new) }
+    ensures checks { (g : Given) (known asked : List Name) → g.door ≡ D.fixed desk.old → g.own ≡ own → g.cache ≡ cache.old
+        → IsOwnAtEnd g None known asked (D.front desk.old) answers.now (Ok ended) → IsTrueCache g.t known asked g.door.caller (D.front desk.new) cache.new }
     ensures collects { (g : Given) (known asked : List Name) → g.door ≡ D.fixed desk.old → g.own ≡ own → g.cache ≡ cache.old
-        → IsOwnAtEnd g known asked (D.front desk.old) answers.now (Ok ended) → Collects g.t known (stands g.door.caller g.q.0 (D.front desk.new)) cache.new share.old share.new result }
+        → IsOwnAtEnd g None known asked (D.front desk.old) answers.now (Ok ended) → Collects g.t known (stands g.door.caller g.q.0 (D.front desk.new)) cache.new share.old share.new result }
     ensures kept { IsPrefix (D.front desk.old) (D.front desk.new) }
     ensures legal { IsLegal (D.fixed desk.old).limit (D.front desk.old) → IsLegal (D.fixed desk.old).limit (D.front desk.new) }
     ensures fixed { D.fixed desk.new ≡ D.fixed desk.old }
@@ -72,6 +75,7 @@ fn put(
     share: &mut Share,
 ) -> Result<(), AllocError>
     ensures put { OnOk result (IsPut key own answers.now derivation cache.old cache.new) }
+    ensures unput { OnErr result ((cache.new ≡ cache.old) ⊎ IsPut key own answers.now derivation cache.old cache.new) }
     ensures shared { OnOk result (Shares derivation (collected share.old) (collected share.new)) }
     ensures unshared { OnErr result (collected share.new ≡ collected share.old) }
 {

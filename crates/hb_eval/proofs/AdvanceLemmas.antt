@@ -8,7 +8,9 @@ use Rattle.hb_names.specs.Names.{Name}
 use Rattle.hb_tables.specs.declared.entry.Entry.{Entry}
 use Rattle.hb_tables.specs.declared.entry.Act.{Act}
 use Rattle.hb_call.specs.Growth.{Grown}
-use Rattle.hb_call.specs.OwnCache.{IsOwnCache}
+use Rattle.hb_cache.specs.declared.kept.Kept.{Kept as KeptCheck}
+use Rattle.hb_call.specs.OwnCache.{KeepsChecks}
+use Rattle.hb_call.specs.OwnLaws.{keeps_itself, keeps_on}
 use Rattle.hb_call.specs.GrowthLaws.{grown_itself, grown_on}
 use Rattle.hb_eval.specs.declared.state.Hand.{Hand}
 use Rattle.hb_eval.specs.declared.state.Hand.TheVariants as hands
@@ -113,8 +115,8 @@ stop_fine t old new k ks stopped top f low hand conts =
 -- the same, in the words of turns
 pub stop_turn : (t : Table) (c : ℕ) (known asked : List Name) (past now : List Entry) (old new : Machine) (k : Cont) (ks : List Cont) → old.hand ≡ hands.Stops → reverse old.conts.items ≡ k ∷ ks → IsFineMachine t old
     → Reads known c past now old.state new.state (with_stop t (k ∷ []) old.frames.items old.state) (with_stop t [] new.frames.items new.state) → Lowers t (need k) (frames_in k) old.frames.items old.state new.frames.items new.state
-    → Grown t c known asked asked past now → IsOwnCache t known asked c now new.state.cache → new.hand ≡ old.hand → reverse new.conts.items ≡ ks
-    → Carries t c known asked asked past now old new
+    → Grown t c known asked asked past now → KeepsChecks t c known known asked asked past now old.state.cache new.state.cache → new.hand ≡ old.hand → reverse new.conts.items ≡ ks
+    → Carries t c known known asked asked past now old new
 stop_turn t c known asked past now old new k ks stopped top f r low grown own hand conts =
     let m : Move = record { under = None; push = None; hand = hands.Stops } in
     record {
@@ -158,8 +160,8 @@ stopped_rest hands.Gives ks stopped none = none
 stopped_rest hands.Begins ks stopped none = tt
 
 -- nothing was done
-pub carries_held : (t : Table) (c : ℕ) (known asked : List Name) (log : List Entry) (old : Machine) (v : Vec Cont Global) → v.items ≡ old.conts.items → IsFineMachine t old → IsOwnCache t known asked c log old.state.cache → Carries t c known asked asked log log old (record old { conts = v })
-carries_held t c known asked log old v e f own = record {
+pub carries_held : (t : Table) (c : ℕ) (known asked : List Name) (log : List Entry) (old : Machine) (v : Vec Cont Global) → v.items ≡ old.conts.items → IsFineMachine t old → Carries t c known known asked asked log log old (record old { conts = v })
+carries_held t c known asked log old v e f = record {
   reads = reads_none known c log log old.state old.state (of_machine t old) (of_machine t (record old { conts = v })) refl (record { made = refl; decided = refl; own = refl; fresh = refl })
       (λ names ks read journal. ap (λ l. stands_at t names (reverse l) old.frames.items old.hand old.state read journal) (sym e));
   fine = record {
@@ -178,26 +180,26 @@ carries_held t c known asked log old v e f own = record {
   fuel = refl;
   stops = λ h. h;
   grown = grown_itself t c known asked log;
-  own = own;
+  own = keeps_itself t c known asked log old.state.cache;
 }
 
-pub carries_on : (t : Table) (c : ℕ) (known longer was mid asked : List Name) (past half now : List Entry) (old m new : Machine) → IsPrefix known longer → Carries t c known was mid past half old m → Carries t c longer mid asked half now m new → Carries t c longer was asked past now old new
-carries_on t c known longer was mid asked past half now old m new p a b = record {
+pub carries_on : (t : Table) (c : ℕ) (names known longer was mid asked : List Name) (past half now : List Entry) (old m new : Machine) → IsPrefix known longer → Carries t c names known was mid past half old m → Carries t c known longer mid asked half now m new → Carries t c names longer was asked past now old new
+carries_on t c names known longer was mid asked past half now old m new p a b = record {
   reads = reads_on known longer c past half now old.state m.state new.state (of_machine t old) (of_machine t m) (of_machine t new) p (sym b.begun) a.reads b.reads;
   fine = b.fine;
   begun = b.begun ∙ a.begun;
   fuel = b.fuel ∙ a.fuel;
   stops = λ h. b.stops (a.stops h);
   grown = grown_on t c known longer was mid asked past half now a.grown b.grown p;
-  own = b.own;
+  own = keeps_on t c names known longer was mid asked past half now old.state.cache m.state.cache new.state.cache b.grown.kept a.own b.own;
 }
 
 -- something was done with the value in hand
-pub value_turn : (t : Table) (c : ℕ) (known was asked : List Name) (past now : List Entry) (old new : Machine) (k : Cont) (rest : List Cont) → old.hand ≡ hands.Gives → old.conts.items ≡ rest ++ k ∷ [] → IsFineMachine t old
+pub value_turn : (t : Table) (c : ℕ) (names known was asked : List Name) (past now : List Entry) (old new : Machine) (k : Cont) (rest : List Cont) → old.hand ≡ hands.Gives → old.conts.items ≡ rest ++ k ∷ [] → IsFineMachine t old
     → Turned t known c past now (need k) (frames_in k) (calls_in k) (weigh_one k) old.frames.items old.state new.frames.items new.state (with_value t k old.frames.items old.state) rest new.conts.items new.hand
-    → (new.state.begun ≡ old.state.begun) × (new.state.fuel ≡ old.state.fuel) → Grown t c known was asked past now → IsOwnCache t known asked c now new.state.cache
-    → Carries t c known was asked past now old new
-value_turn t c known was asked past now old new k rest given all f turned timed grown own =
+    → (new.state.begun ≡ old.state.begun) × (new.state.fuel ≡ old.state.fuel) → Grown t c known was asked past now → KeepsChecks t c names known was asked past now old.state.cache new.state.cache
+    → Carries t c names known was asked past now old new
+value_turn t c names known was asked past now old new k rest given all f turned timed grown own =
     let ks = reverse rest in
     let top : reverse old.conts.items ≡ k ∷ ks = ap reverse all ∙ pushed_first rest k in
     let m = turned.move in
@@ -227,9 +229,9 @@ value_falls t c known past now old new k rest given all turned =
 -- an expression began
 pub begin_turn : (t : Table) (c : ℕ) (known asked : List Name) (log : List Entry) (old new : Machine) → old.hand ≡ hands.Begins → IsFineMachine t old
     → Started t old.state new.state old.conts.items new.conts.items new.hand → new.frames.items ≡ old.frames.items
-    → new.state.begun ≡ old.state.begun + 1 → IsFed new.hand old.state.fuel new.state.fuel → SameCalls old.state new.state → (AreKnown t old.state → AreKnown t new.state) → new.state.cache ≡ old.state.cache → IsOwnCache t known asked c log old.state.cache
-    → Begins t c known asked asked log log old new
-begin_turn t c known asked log old new going f s frames begun fed calls known_stays cache own =
+    → new.state.begun ≡ old.state.begun + 1 → IsFed new.hand old.state.fuel new.state.fuel → SameCalls old.state new.state → (AreKnown t old.state → AreKnown t new.state) → new.state.cache ≡ old.state.cache
+    → Begins t c known known asked asked log log old new
+begin_turn t c known asked log old new going f s frames begun fed calls known_stays cache =
     let ks = reverse old.conts.items in
     let m = s.move in
     let at : List Framed → Type 0 = λ fs. Reads known c log log old.state new.state (at_beginning t old.frames.items old.state) (after t m fs new.state) in
@@ -242,7 +244,7 @@ begin_turn t c known asked log old new going f s frames begun fed calls known_st
       begun = begun;
       fed = fed;
       grown = grown_itself t c known asked log;
-      own = subst (IsOwnCache t known asked c log) (sym cache) own;
+      own = subst (KeepsChecks t c known known asked asked log log old.state.cache) (sym cache) (keeps_itself t c known asked log old.state.cache);
     }
 
 one_fed : (b : Hand) (n o : ℕ) → n ≡ o + 1 → IsFed b n o
@@ -257,14 +259,14 @@ fed_on hands.Stops hands.Begins n m o h e fed = let w = h refl in absurd (cc w)
 fed_on hands.Gives b n m o h e fed = one_fed b n o (subst (λ x. n ≡ x + 1) (sym e) fed)
 fed_on hands.Begins b n m o h e fed = one_fed b n o (subst (λ x. n ≡ x + 1) (sym e) fed)
 
-pub begins_on : (t : Table) (c : ℕ) (known longer was mid asked : List Name) (past half now : List Entry) (old m new : Machine) → IsPrefix known longer → Begins t c known was mid past half old m → Carries t c longer mid asked half now m new → Begins t c longer was asked past now old new
-begins_on t c known longer was mid asked past half now old m new p a b = record {
+pub begins_on : (t : Table) (c : ℕ) (names known longer was mid asked : List Name) (past half now : List Entry) (old m new : Machine) → IsPrefix known longer → Begins t c names known was mid past half old m → Carries t c known longer mid asked half now m new → Begins t c names longer was asked past now old new
+begins_on t c names known longer was mid asked past half now old m new p a b = record {
   reads = reads_on known longer c past half now old.state m.state new.state (of_machine t old) (of_machine t m) (of_machine t new) p (sym b.begun) a.reads b.reads;
   fine = b.fine;
   begun = b.begun ∙ a.begun;
   fed = fed_on m.hand new.hand old.state.fuel m.state.fuel new.state.fuel b.stops b.fuel a.fed;
   grown = grown_on t c known longer was mid asked past half now a.grown b.grown p;
-  own = b.own;
+  own = keeps_on t c names known longer was mid asked past half now old.state.cache m.state.cache new.state.cache b.grown.kept a.own b.own;
 }
 
 next_first : (h : Hand) (n : ℕ) (ks : List Cont) → IsNext h n ks → h ≡ hands.Gives → (n ≡ 0) × IsOneBlock ks
@@ -323,16 +325,16 @@ opens_block t old new rest k m f going given all moves plain steady known less q
     }
 
 -- the block has its value at once
-pub opened_advances : (t : Table) (c : ℕ) (known asked : List Name) (log : List Entry) (old new : Machine) → IsOwnCache t known asked c log old.state.cache → Opens t old new → Advances t c known asked asked log log old new
-opened_advances t c known asked log old new own o = record {
+pub opened_advances : (t : Table) (c : ℕ) (known asked : List Name) (log : List Entry) (old new : Machine) → Opens t old new → Advances t c known known asked asked log log old new
+opened_advances t c known asked log old new o = record {
   reads = reads_none known c log log old.state new.state (of_machine t old) (of_machine t new) refl o.steady.calls (λ names ks read journal. o.same names read journal);
   fine = o.fine;
   grown = grown_itself t c known asked log;
-  own = subst (IsOwnCache t known asked c log) (sym o.steady.cache) own;
+  own = subst (KeepsChecks t c known known asked asked log log old.state.cache) (sym o.steady.cache) (keeps_itself t c known asked log old.state.cache);
 }
 
-pub begun_advances : (t : Table) (c : ℕ) (known was asked : List Name) (past now : List Entry) (old m new : Machine) → Opens t old m → Begins t c known was asked past now m new → Advances t c known was asked past now old new
-begun_advances t c known was asked past now old m new o b = record {
+pub begun_advances : (t : Table) (c : ℕ) (names known was asked : List Name) (past now : List Entry) (old m new : Machine) → Opens t old m → Begins t c names known was asked past now m new → Advances t c names known was asked past now old new
+begun_advances t c names known was asked past now old m new o b = record {
   reads = record {
     more = b.reads.more;
     grows = b.reads.grows;
@@ -346,7 +348,7 @@ begun_advances t c known was asked past now old m new o b = record {
   };
   fine = b.fine;
   grown = b.grown;
-  own = b.own;
+  own = subst (λ (cache : List (Option KeptCheck)). KeepsChecks t c names known was asked past now cache new.state.cache) o.steady.cache b.own;
 }
 
 no_frames : (fs : List Framed) → length fs ≡ 0 → fs ≡ []

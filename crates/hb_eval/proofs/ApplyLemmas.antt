@@ -1,5 +1,8 @@
 -- What is begun, and what is done with a value, in the words of turns.
-use Rattle.std.proofs.Common.{◌≡◌, ◌<◌, ℕ, List, [], ◌∷◌, ◌++◌, Some, None, Bool, false, refl, sym, ap, ◌∙◌, arith}
+use Rattle.hb_cache.specs.declared.kept.Kept.{Kept as KeptCheck}
+use Rattle.hb_call.specs.OwnCache.{KeepsChecks}
+use Rattle.hb_call.specs.OwnLaws.{keeps_itself}
+use Rattle.std.proofs.Common.{◌≡◌, ◌<◌, ℕ, List, [], ◌∷◌, ◌++◌, Option, Some, None, Bool, false, refl, sym, ap, ◌∙◌, subst, arith}
 use Rattle.std.specs.Prelude.{count_by, Result, Ok, Err, IfOk, OnOk}
 use Rattle.std.specs.declared.alloc.AllocError.{AllocError}
 use Rattle.std.proofs.lemmas.Result.{IfOk-weaker}
@@ -98,6 +101,10 @@ on_ok (Err e) P h = tt
 -- where no act came and no name was asked for, the front grew as it may
 pub nothing_grown : {T E : Type 0} (t : Table) (c : ℕ) (known asked : List Name) (log : List Entry) (r : Result T E) → OnOk r (Grown t c known asked asked log log)
 nothing_grown t c known asked log r = on_ok r _ (grown_itself t c known asked log)
+
+-- and what is kept goes on to be so
+pub nothing_kept : {T E : Type 0} (t : Table) (c : ℕ) (known asked : List Name) (log : List Entry) (old new : List (Option KeptCheck)) (r : Result T E) → new ≡ old → OnOk r (KeepsChecks t c known known asked asked log log old new)
+nothing_kept t c known asked log old new r same = on_ok r _ (subst (λ (cache : List (Option KeptCheck)). KeepsChecks t c known known asked asked log log old cache) (sym same) (keeps_itself t c known asked log old))
 
 -- a turn that reads nothing and takes no frame
 pub quiet_turned : (t : Table) (known : List Name) (c : ℕ) (log : List Entry) (k : Cont) (frames : List Framed) (old new : State) (m : Move) (was now : List Cont) (r : Result Hand AllocError) → IfOk r (Took m was now)

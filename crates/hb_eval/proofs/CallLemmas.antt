@@ -157,4 +157,4 @@ body_there a names old mid key way site held d = go (body_at d.given.t site) ref
 
 -- no call enters by a check of another script
 pub not_shared : (a : Asks) (names : List Name) (old mid : List Entry) (key : KeyId) (way : By) (site : Option BodySite) (held : List KeyId) → IsDecidedOf a names old mid key (verdict.Enter way) site held → way ≡ by.Shared → ⊥
-not_shared a names old mid key way site held d is = subst (λ (w : By). IsRightWay d.given.door.caller d.given.key.0 d.decided.before (verdict.Enter w)) is d.decided.way
+not_shared a names old mid key way site held d is = d.decided.unshared (ap (λ (w : By). verdict.Enter w) is)

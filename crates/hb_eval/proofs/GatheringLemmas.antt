@@ -43,9 +43,7 @@ use Rattle.hb_call.specs.declared.frame.Frame.{Frame}
 use Rattle.hb_call.specs.declared.frame.Entered.TheVariants as entered
 use Rattle.hb_call.specs.Entering.{Asks, IsDecidedOf}
 use Rattle.hb_call.specs.Held.{stands}
-use Rattle.hb_call.specs.Own.{cache_of, item_by}
-use Rattle.hb_call.specs.OwnCache.{IsOwnCache}
-use Rattle.hb_call.specs.OwnLaws.{cache_more}
+use Rattle.hb_call.specs.OwnCache.{IsTrueCache}
 use Rattle.hb_call.specs.Reading.{call_of}
 use Rattle.hb_eval.proofs.CallLemmas.{decision_of}
 use Rattle.hb_eval.proofs.CountLemmas.{call_counts}
@@ -200,25 +198,13 @@ last_call a names old mid key v site held d =
     (subst (λ (y : ArgKinds). P d.given.door d.given.q d.given.key y) d.args (d.decided.before, d.decided.is)))) in
     (x.0, ap (acts a.door.caller) x.1 ∙ acts_append a.door.caller x.0 (entry a.door.caller (Call a.q key site a.args v) ∷ []) ∙ ap (λ l. acts a.door.caller x.0 ++ l) (own_act a.door.caller (Call a.q key site a.args v)))
 
-there_same : (o : Option Kept) (kept : Kept) (i : Option Item) (item : Item) → o ≡ Some kept → i ≡ Some item → SameItem (option_map item_of o) i → SaysSame (item_of kept) item
-there_same o kept i item at is h = subst (λ (i : Option Item). SameItem (Some (item_of kept)) i) is (subst (λ (o : Option Kept). SameItem (option_map item_of o) i) at h)
-
--- what is kept for the key behind the Call is of the Call's body
-kept_body : (t : Table) (names asked : List Name) (c : ℕ) (before now : List Entry) (cache : List (Option Kept)) (q : CallNo) (key : KeyId) (site : BodySite) (args : ArgKinds) (kept : Kept)
-    → IsOwnCache t names asked c now cache → acts c now ≡ acts c before ++ Call q key (Some site) args (verdict.Enter by.Fresh) ∷ [] → kept_at cache key.0 ≡ Some kept → kept.derivation.body ≡ site
-kept_body t names asked c before now cache q key site args kept own is at =
-    let item : Item = item_by (standing q.0 (acts c before)) site in
-    let items = cache_of (acts c before) in
-    let there : cache_of (acts c now) key.0 ≡ Some item = ap (λ (f : Items). f key.0) (cache_more c before now (Call q key (Some site) args (verdict.Enter by.Fresh)) is) ∙ ap (λ b. if b then Some item else items key.0) (eq-eqb key.0 key.0 refl) in
-    (there_same (kept_at cache key.0) kept (cache_of (acts c now) key.0) item at there (own.same key.0)).body
-
 -- what it collects is the derivation of its Call
 takes_last : (t : Table) (names asked : List Name) (c : ℕ) (before now : List Entry) (cache : List (Option Kept)) (q : CallNo) (key : KeyId) (site : BodySite) (args : ArgKinds) (old new : Option (List Derivation))
-    → IsOwnCache t names asked c now cache → acts c now ≡ acts c before ++ Call q key (Some site) args (verdict.Enter by.Fresh) ∷ [] → CollectsFew t names (stands c q.0 now) cache key.0 old new → TakesOne t names (standing q.0 (acts c before)) key.0 site old new
+    → IsTrueCache t names asked c now cache → acts c now ≡ acts c before ++ Call q key (Some site) args (verdict.Enter by.Fresh) ∷ [] → CollectsFew t names (stands c q.0 now) cache key.0 site old new → TakesOne t names (standing q.0 (acts c before)) key.0 site old new
 takes_last t names asked c before now cache q key site args None new own is h = h
 takes_last t names asked c before now cache q key site args (Some old) new own is h = (λ few. one (h.0 few), h.1)
   where
-    one : CollectsOne t names (stands c q.0 now) cache key.0 old new → TakesLast t names (standing q.0 (acts c before)) key.0 site old new
+    one : CollectsOne t names (stands c q.0 now) cache key.0 site old new → TakesLast t names (standing q.0 (acts c before)) key.0 site old new
     one x =
         let held : stands c q.0 now ≡ standing q.0 (acts c before) = ap (standing q.0) is ∙ standing_stays q.0 (acts c before) (Call q key (Some site) args (verdict.Enter by.Fresh)) refl in
         let kept = own.each key.0 x.kept x.at in
@@ -229,7 +215,7 @@ takes_last t names asked c before now cache q key site args (Some old) new own i
             name = kept.name;
             named = subst (λ (k : ℕ). place names kept.name ≡ Some k) x.key kept.named;
             class = kept.class ∙ sym (ap (λ (d : Content). d.class) x.same);
-            body = ap (λ (d : Content). site_numbered d.body) x.same ∙ kept_body t names asked c before now cache q key site args x.kept own is x.at;
+            body = ap (λ (d : Content). site_numbered d.body) x.same ∙ x.body;
             declared = subst (λ (hs : List Stand). Found hs key.0 x.copy.declared) held x.declared;
             uses = subst (λ (hs : List Stand). FoundUses t names hs x.copy.uses.items) held x.uses;
           };
@@ -238,7 +224,7 @@ takes_last t names asked c before now cache q key site args (Some old) new own i
 
 -- what a call that entered added
 pub shares_entered : (a : Asks) (names asked : List Name) (past now : List Entry) (cache : List (Option Kept)) (f : Frame) (way : By) (old new : Share)
-    → IsDecidedOf a names past now f.key (verdict.Enter way) (Some f.body) f.held.items → IsOwnCache a.t names asked a.door.caller now cache → Collects a.t names (stands a.door.caller a.q.0 now) cache old new (Ok (entered.Frame f way)) → Shares a.t names a.door.caller past now old new
+    → IsDecidedOf a names past now f.key (verdict.Enter way) (Some f.body) f.held.items → IsTrueCache a.t names asked a.door.caller now cache → Collects a.t names (stands a.door.caller a.q.0 now) cache old new (Ok (entered.Frame f way)) → Shares a.t names a.door.caller past now old new
 shares_entered a names asked past now cache f way old new d own h = each way d h
   where
     c : ℕ

@@ -61,11 +61,11 @@ fits_any : (t : Table) (names : List Name) (c : ℕ) (before : List Entry) (a : 
 fits_any t names c before (Hold p key ty changes) h named = absurd h
 fits_any t names c before (Free p key) h named = absurd h
 fits_any t names c before (Call p key site args verdict) h named = absurd h
-fits_any t names c before (Retype key site) h named = record { row = tt; hold = tt; free = tt; whole = tt; named = named; entered = tt }
-fits_any t names c before (Busy key pins) h named = record { row = tt; hold = tt; free = tt; whole = tt; named = named; entered = tt }
-fits_any t names c before (WornType key) h named = record { row = tt; hold = tt; free = tt; whole = tt; named = named; entered = tt }
-fits_any t names c before (Define key site) h named = record { row = tt; hold = tt; free = tt; whole = tt; named = named; entered = tt }
-fits_any t names c before (WornDef key) h named = record { row = tt; hold = tt; free = tt; whole = tt; named = named; entered = tt }
+fits_any t names c before (Retype key site) h named = record { row = tt; hold = tt; free = tt; whole = tt; named = named }
+fits_any t names c before (Busy key pins) h named = record { row = tt; hold = tt; free = tt; whole = tt; named = named }
+fits_any t names c before (WornType key) h named = record { row = tt; hold = tt; free = tt; whole = tt; named = named }
+fits_any t names c before (Define key site) h named = record { row = tt; hold = tt; free = tt; whole = tt; named = named }
+fits_any t names c before (WornDef key) h named = record { row = tt; hold = tt; free = tt; whole = tt; named = named }
 
 -- it asks for the name of its key
 asks_key : (names asked : List Name) (a : Act) → IsChange a → asked_by names asked a ≡ with_key names asked (key_of a)

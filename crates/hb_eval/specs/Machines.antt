@@ -12,7 +12,7 @@ use Rattle.hb_tables.specs.declared.entry.Act.{Act}
 use Rattle.hb_tables.specs.declared.entry.By.TheVariants as by
 use Rattle.hb_tables.specs.Frames.{acts}
 use Rattle.hb_call.specs.Growth.{Grown}
-use Rattle.hb_call.specs.OwnCache.{IsOwnCache}
+use Rattle.hb_call.specs.OwnCache.{KeepsChecks}
 use Rattle.hb_eval.specs.declared.cont.Cont.{Cont}
 use Rattle.hb_eval.specs.declared.cont.Cont.TheVariants as cont
 use Rattle.hb_eval.specs.declared.state.State.{State}
@@ -148,23 +148,23 @@ abbrev pub turns_left : Machine → ℕ
 turns_left m = weigh m.hand (reverse m.conts.items)
 
 -- Some acts come, and no expression begins.
-pub record Carries (t : Table) (c : ℕ) (known was asked : List Name) (past now : List Entry) (old new : Machine) : Type 0 where
+pub record Carries (t : Table) (c : ℕ) (names known was asked : List Name) (past now : List Entry) (old new : Machine) : Type 0 where
   pub reads : Reads known c past now old.state new.state (of_machine t old) (of_machine t new)
   pub fine : IsFineMachine t new
   pub begun : new.state.begun ≡ old.state.begun
   pub fuel : new.state.fuel ≡ old.state.fuel
   pub stops : old.hand ≡ hands.Stops → new.hand ≡ hands.Stops
   pub grown : Grown t c known was asked past now
-  pub own : IsOwnCache t known asked c now new.state.cache
+  pub own : KeepsChecks t c names known was asked past now old.state.cache new.state.cache
 
 -- An expression begins, and some acts come.
-pub record Begins (t : Table) (c : ℕ) (known was asked : List Name) (past now : List Entry) (old new : Machine) : Type 0 where
+pub record Begins (t : Table) (c : ℕ) (names known was asked : List Name) (past now : List Entry) (old new : Machine) : Type 0 where
   pub reads : Reads known c past now old.state new.state (of_machine t old) (of_machine t new)
   pub fine : IsFineMachine t new
   pub begun : new.state.begun ≡ old.state.begun + 1
   pub fed : IsFed new.hand old.state.fuel new.state.fuel
   pub grown : Grown t c known was asked past now
-  pub own : IsOwnCache t known asked c now new.state.cache
+  pub own : KeepsChecks t c names known was asked past now old.state.cache new.state.cache
 
 -- Nothing begins, and the answer is the same.
 pub record Opens (t : Table) (old new : Machine) : Type 0 where
@@ -175,11 +175,11 @@ pub record Opens (t : Table) (old new : Machine) : Type 0 where
   pub first : old.hand ≡ hands.Begins → new.hand ≡ hands.Begins
 
 -- Some acts come, and the machine is fine behind them.
-pub record Advances (t : Table) (c : ℕ) (known was asked : List Name) (past now : List Entry) (old new : Machine) : Type 0 where
+pub record Advances (t : Table) (c : ℕ) (names known was asked : List Name) (past now : List Entry) (old new : Machine) : Type 0 where
   pub reads : Reads known c past now old.state new.state (of_machine t old) (of_machine t new)
   pub fine : IsFineMachine t new
   pub grown : Grown t c known was asked past now
-  pub own : IsOwnCache t known asked c now new.state.cache
+  pub own : KeepsChecks t c names known was asked past now old.state.cache new.state.cache
 
 -- how a run ended
 abbrev pub outcome_of : Hand → Stop → NodeId → Value → Outcome

@@ -15,7 +15,7 @@ ghost use Rattle.hb_eval.specs.declared.state.Hand.TheVariants as hands;
 ghost use Rattle.hb_eval.specs.declared.value.Value.{Value as Values};
 ghost use Rattle.hb_eval.specs.declared.stop.Stop.TheVariants.{Full};
 ghost use Rattle.hb_call.specs.Growth.{Grown};
-ghost use Rattle.hb_call.specs.OwnCache.{IsOwnCache};
+ghost use Rattle.hb_call.specs.OwnCache.{IsTrueCache, KeepsChecks};
 ghost use Rattle.hb_eval.specs.declared.cont.Cont.TheVariants as cont;
 ghost use Rattle.hb_eval.specs.declared.value.Value.TheVariants as value;
 ghost use Rattle.hb_eval.specs.Calls as calls;
@@ -65,14 +65,14 @@ pub(crate) fn receiver<D: Desk, N: Names>(
 ) -> Result<Hand, AllocError>
     requires ready { Ready prog.now (cont.Receiver id) frames.old.items state.old }
     requires holding { Holding (D.fixed desk.old).caller (state.old.made + 1) (frames_of frames.old.items) (D.front desk.old) }
-    requires own { IsOwnCache prog.now (N.known names.old) (N.asked names.old) (D.fixed desk.old).caller (D.front desk.old) state.old.cache }
+    requires cache { IsTrueCache prog.now (N.known names.old) (N.asked names.old) (D.fixed desk.old).caller (D.front desk.old) state.old.cache }
     ensures turned { IfOk result (Turned prog.now (N.known names.new) (D.fixed desk.old).caller (D.front desk.old) (D.front desk.new) (0) 0 1 2 frames.old.items state.old frames.new.items state.new
         (with_value prog.now (cont.Receiver id) frames.old.items state.old) conts.old.items conts.new.items) }
     ensures timed { (state.new.begun ≡ state.old.begun) × (state.new.fuel ≡ state.old.fuel) }
     ensures holding { Holding (D.fixed desk.old).caller (state.new.made + 1) (frames_of frames.new.items) (D.front desk.new) }
     ensures stays { Stays (D.fixed desk.old) (D.fixed desk.new) (D.front desk.old) (D.front desk.new) (N.known names.old) (N.known names.new) }
     ensures grown { OnOk result (Grown prog.now (D.fixed desk.old).caller (N.known names.new) (N.asked names.old) (N.asked names.new) (D.front desk.old) (D.front desk.new)) }
-    ensures own { OnOk result (IsOwnCache prog.now (N.known names.new) (N.asked names.new) (D.fixed desk.old).caller (D.front desk.new) state.new.cache) }
+    ensures own { OnOk result (KeepsChecks prog.now (D.fixed desk.old).caller (N.known names.old) (N.known names.new) (N.asked names.old) (N.asked names.new) (D.front desk.old) (D.front desk.new) state.old.cache state.new.cache) }
     ensures shares { OnOk result (Shares prog.now (N.known names.new) (D.fixed desk.old).caller (D.front desk.old) (D.front desk.new) share.old share.new) }
     ensures alike { N.alike names.old names.new }
 {
@@ -97,14 +97,14 @@ pub(crate) fn argument<D: Desk, N: Names>(
 ) -> Result<Hand, AllocError>
     requires ready { Ready prog.now (cont.Arguments id count) frames.old.items state.old }
     requires holding { Holding (D.fixed desk.old).caller (state.old.made + 1) (frames_of frames.old.items) (D.front desk.old) }
-    requires own { IsOwnCache prog.now (N.known names.old) (N.asked names.old) (D.fixed desk.old).caller (D.front desk.old) state.old.cache }
+    requires cache { IsTrueCache prog.now (N.known names.old) (N.asked names.old) (D.fixed desk.old).caller (D.front desk.old) state.old.cache }
     ensures turned { IfOk result (Turned prog.now (N.known names.new) (D.fixed desk.old).caller (D.front desk.old) (D.front desk.new) (suc count) 0 1 2 frames.old.items state.old frames.new.items state.new
         (with_value prog.now (cont.Arguments id count) frames.old.items state.old) conts.old.items conts.new.items) }
     ensures timed { (state.new.begun ≡ state.old.begun) × (state.new.fuel ≡ state.old.fuel) }
     ensures holding { Holding (D.fixed desk.old).caller (state.new.made + 1) (frames_of frames.new.items) (D.front desk.new) }
     ensures stays { Stays (D.fixed desk.old) (D.fixed desk.new) (D.front desk.old) (D.front desk.new) (N.known names.old) (N.known names.new) }
     ensures grown { OnOk result (Grown prog.now (D.fixed desk.old).caller (N.known names.new) (N.asked names.old) (N.asked names.new) (D.front desk.old) (D.front desk.new)) }
-    ensures own { OnOk result (IsOwnCache prog.now (N.known names.new) (N.asked names.new) (D.fixed desk.old).caller (D.front desk.new) state.new.cache) }
+    ensures own { OnOk result (KeepsChecks prog.now (D.fixed desk.old).caller (N.known names.old) (N.known names.new) (N.asked names.old) (N.asked names.new) (D.front desk.old) (D.front desk.new) state.old.cache state.new.cache) }
     ensures shares { OnOk result (Shares prog.now (N.known names.new) (D.fixed desk.old).caller (D.front desk.old) (D.front desk.new) share.old share.new) }
     ensures alike { N.alike names.old names.new }
 {
@@ -144,14 +144,14 @@ fn next_argument<D: Desk, N: Names>(
     requires may { MayCall state.old }
     requires known { AllKnown prog.now frames.old.items state.old }
     requires holding { Holding (D.fixed desk.old).caller (state.old.made + 1) (frames_of frames.old.items) (D.front desk.old) }
-    requires own { IsOwnCache prog.now (N.known names.old) (N.asked names.old) (D.fixed desk.old).caller (D.front desk.old) state.old.cache }
+    requires cache { IsTrueCache prog.now (N.known names.old) (N.asked names.old) (D.fixed desk.old).caller (D.front desk.old) state.old.cache }
     ensures turned { IfOk result (Turned prog.now (N.known names.new) (D.fixed desk.old).caller (D.front desk.old) (D.front desk.new) (suc count) 0 1 2 frames.old.items state.old frames.new.items state.new
         (with_operands prog.now (length state.old.operands.items - count - 1) (λ w room vs s. arguments_from w room (tree_at prog.now id.0) count vs s) frames.old.items state.old) conts.old.items conts.new.items) }
     ensures timed { (state.new.begun ≡ state.old.begun) × (state.new.fuel ≡ state.old.fuel) }
     ensures holding { Holding (D.fixed desk.old).caller (state.new.made + 1) (frames_of frames.new.items) (D.front desk.new) }
     ensures stays { Stays (D.fixed desk.old) (D.fixed desk.new) (D.front desk.old) (D.front desk.new) (N.known names.old) (N.known names.new) }
     ensures grown { OnOk result (Grown prog.now (D.fixed desk.old).caller (N.known names.new) (N.asked names.old) (N.asked names.new) (D.front desk.old) (D.front desk.new)) }
-    ensures own { OnOk result (IsOwnCache prog.now (N.known names.new) (N.asked names.new) (D.fixed desk.old).caller (D.front desk.new) state.new.cache) }
+    ensures own { OnOk result (KeepsChecks prog.now (D.fixed desk.old).caller (N.known names.old) (N.known names.new) (N.asked names.old) (N.asked names.new) (D.front desk.old) (D.front desk.new) state.old.cache state.new.cache) }
     ensures shares { OnOk result (Shares prog.now (N.known names.new) (D.fixed desk.old).caller (D.front desk.old) (D.front desk.new) share.old share.new) }
     ensures alike { N.alike names.old names.new }
 {
@@ -217,7 +217,7 @@ fn call_here<D: Desk, N: Names>(
     requires may { MayCall state.old }
     requires known { AllKnown prog.now frames.old.items state.old }
     requires holding { Holding (D.fixed desk.old).caller (state.old.made + 1) (frames_of frames.old.items) (D.front desk.old) }
-    requires own { IsOwnCache prog.now (N.known names.old) (N.asked names.old) (D.fixed desk.old).caller (D.front desk.old) state.old.cache }
+    requires cache { IsTrueCache prog.now (N.known names.old) (N.asked names.old) (D.fixed desk.old).caller (D.front desk.old) state.old.cache }
     ensures reads { IfOk result (λ m. Reads (N.known names.new) (D.fixed desk.old).caller (D.front desk.old) (D.front desk.new) state.old state.new
         (with_operands prog.now at (λ w room vs s. calling w room id.0 name.0 vs s) frames.old.items state.old) (after prog.now m frames.new.items state.new)) }
     ensures goes { IfOk result (Goes prog.now (length state.old.operands.items - at) 0 1 frames.old.items state.old frames.new.items state.new) }
@@ -226,7 +226,7 @@ fn call_here<D: Desk, N: Names>(
     ensures holding { Holding (D.fixed desk.old).caller (state.new.made + 1) (frames_of frames.new.items) (D.front desk.new) }
     ensures stays { Stays (D.fixed desk.old) (D.fixed desk.new) (D.front desk.old) (D.front desk.new) (N.known names.old) (N.known names.new) }
     ensures grown { OnOk result (Grown prog.now (D.fixed desk.old).caller (N.known names.new) (N.asked names.old) (N.asked names.new) (D.front desk.old) (D.front desk.new)) }
-    ensures own { OnOk result (IsOwnCache prog.now (N.known names.new) (N.asked names.new) (D.fixed desk.old).caller (D.front desk.new) state.new.cache) }
+    ensures own { OnOk result (KeepsChecks prog.now (D.fixed desk.old).caller (N.known names.old) (N.known names.new) (N.asked names.old) (N.asked names.new) (D.front desk.old) (D.front desk.new) state.old.cache state.new.cache) }
     ensures shares { OnOk result (Shares prog.now (N.known names.new) (D.fixed desk.old).caller (D.front desk.old) (D.front desk.new) share.old share.new) }
     ensures alike { N.alike names.old names.new }
 {
@@ -260,14 +260,14 @@ fn call<D: Desk, N: Names>(
     requires may { MayCall state.old }
     requires known { AllKnown prog.now frames.old.items state.old }
     requires holding { Holding (D.fixed desk.old).caller (state.old.made + 1) (frames_of frames.old.items) (D.front desk.old) }
-    requires own { IsOwnCache prog.now (N.known names.old) (N.asked names.old) (D.fixed desk.old).caller (D.front desk.old) state.old.cache }
+    requires cache { IsTrueCache prog.now (N.known names.old) (N.asked names.old) (D.fixed desk.old).caller (D.front desk.old) state.old.cache }
     ensures turned { IfOk result (Turned prog.now (N.known names.new) (D.fixed desk.old).caller (D.front desk.old) (D.front desk.new) (length state.old.operands.items - at) 0 1 2 frames.old.items state.old frames.new.items state.new
         (with_operands prog.now at (λ w room vs s. calling w room id.0 name.0 vs s) frames.old.items state.old) conts.old.items conts.new.items) }
     ensures timed { (state.new.begun ≡ state.old.begun) × (state.new.fuel ≡ state.old.fuel) }
     ensures holding { Holding (D.fixed desk.old).caller (state.new.made + 1) (frames_of frames.new.items) (D.front desk.new) }
     ensures stays { Stays (D.fixed desk.old) (D.fixed desk.new) (D.front desk.old) (D.front desk.new) (N.known names.old) (N.known names.new) }
     ensures grown { OnOk result (Grown prog.now (D.fixed desk.old).caller (N.known names.new) (N.asked names.old) (N.asked names.new) (D.front desk.old) (D.front desk.new)) }
-    ensures own { OnOk result (IsOwnCache prog.now (N.known names.new) (N.asked names.new) (D.fixed desk.old).caller (D.front desk.new) state.new.cache) }
+    ensures own { OnOk result (KeepsChecks prog.now (D.fixed desk.old).caller (N.known names.old) (N.known names.new) (N.asked names.old) (N.asked names.new) (D.front desk.old) (D.front desk.new) state.old.cache state.new.cache) }
     ensures shares { OnOk result (Shares prog.now (N.known names.new) (D.fixed desk.old).caller (D.front desk.old) (D.front desk.new) share.old share.new) }
     ensures alike { N.alike names.old names.new }
 {
@@ -298,7 +298,7 @@ fn decide<D: Desk, N: Names>(
     requires object { (d : Values) → calls.receiver (get_or state.old.operands.items at d) ≡ Ok class }
     requires room { length frames.old.items < 4096 }
     requires holding { Holding (D.fixed desk.old).caller (state.old.made + 1) (frames_of frames.old.items) (D.front desk.old) }
-    requires own { IsOwnCache prog.now (N.known names.old) (N.asked names.old) (D.fixed desk.old).caller (D.front desk.old) state.old.cache }
+    requires cache { IsTrueCache prog.now (N.known names.old) (N.asked names.old) (D.fixed desk.old).caller (D.front desk.old) state.old.cache }
     ensures reads { IfOk result (λ m. Reads (N.known names.new) (D.fixed desk.old).caller (D.front desk.old) (D.front desk.new) state.old state.new
         (with_operands prog.now at (λ w room vs s. calling w room id.0 name.0 vs s) frames.old.items state.old) (after prog.now m frames.new.items state.new)) }
     ensures goes { IfOk result (Goes prog.now (length state.old.operands.items - at) 0 1 frames.old.items state.old frames.new.items state.new) }
@@ -307,7 +307,7 @@ fn decide<D: Desk, N: Names>(
     ensures holding { Holding (D.fixed desk.old).caller (state.new.made + 1) (frames_of frames.new.items) (D.front desk.new) }
     ensures stays { Stays (D.fixed desk.old) (D.fixed desk.new) (D.front desk.old) (D.front desk.new) (N.known names.old) (N.known names.new) }
     ensures grown { OnOk result (Grown prog.now (D.fixed desk.old).caller (N.known names.new) (N.asked names.old) (N.asked names.new) (D.front desk.old) (D.front desk.new)) }
-    ensures own { OnOk result (IsOwnCache prog.now (N.known names.new) (N.asked names.new) (D.fixed desk.old).caller (D.front desk.new) state.new.cache) }
+    ensures own { OnOk result (KeepsChecks prog.now (D.fixed desk.old).caller (N.known names.old) (N.known names.new) (N.asked names.old) (N.asked names.new) (D.front desk.old) (D.front desk.new) state.old.cache state.new.cache) }
     ensures shares { OnOk result (Shares prog.now (N.known names.new) (D.fixed desk.old).caller (D.front desk.old) (D.front desk.new) share.old share.new) }
     ensures alike { N.alike names.old names.new }
 {

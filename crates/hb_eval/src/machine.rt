@@ -12,7 +12,7 @@ ghost use Rattle.hb_tables.specs.declared.entry.Entry.{Entry};
 ghost use Rattle.hb_tables.specs.Frames.{acts};
 ghost use Rattle.hb_call.specs.Growth.{Grown};
 ghost use Rattle.hb_call.specs.Held.{stands};
-ghost use Rattle.hb_call.specs.OwnCache.{IsOwnCache};
+ghost use Rattle.hb_call.specs.OwnCache.{IsOwnCache, IsTrueCache, KeepsChecks};
 ghost use Rattle.hb_tables.specs.History.{IsLegal};
 ghost use Rattle.hb_eval.specs.declared.machine.Turn.TheVariants.{Ended};
 ghost use Rattle.hb_eval.specs.declared.state.Hand.TheVariants as hands;
@@ -101,7 +101,7 @@ impl Machine {
         ensures going { IfOk result (λ m. IsGoing m) }
         ensures keeps { IfOk result (λ m. keeps m ≡ keep_journal) }
         ensures fresh { IfOk result (λ m. (m.frames.items ≡ []) × (m.state.made ≡ 0) × (m.caller ≡ caller) × (m.state.begun ≡ 0)) }
-        ensures own { IfOk result (λ m. (t : Table) (known asked : List Name) (log : List Entry) → acts caller.0 log ≡ [] → IsOwnCache t known asked caller.0 log m.state.cache) }
+        ensures own { IfOk result (λ m. (t : Table) (known asked : List Name) (log : List Entry) → IsOwnCache t known asked caller.0 (Some (acts caller.0 log)) log m.state.cache) }
     {
         let mut conts = Vec::new(alloc);
         conts.push(Cont::Items(block, 0))?;
@@ -144,8 +144,8 @@ impl Machine {
         requires fine { IsFineMachine prog.now self.old }
         requires gives { self.old.hand ≡ hands.Gives }
         requires holding { Holding (D.fixed desk.old).caller (self.old.state.made + 1) (frames_of self.old.frames.items) (D.front desk.old) }
-        requires own { IsOwnCache prog.now (N.known names.old) (N.asked names.old) (D.fixed desk.old).caller (D.front desk.old) self.old.state.cache }
-        ensures carries { OnOk result (Carries prog.now (D.fixed desk.old).caller (N.known names.new) (N.asked names.old) (N.asked names.new) (D.front desk.old) (D.front desk.new) self.old self.new) }
+        requires cache { IsTrueCache prog.now (N.known names.old) (N.asked names.old) (D.fixed desk.old).caller (D.front desk.old) self.old.state.cache }
+        ensures carries { OnOk result (Carries prog.now (D.fixed desk.old).caller (N.known names.old) (N.known names.new) (N.asked names.old) (N.asked names.new) (D.front desk.old) (D.front desk.new) self.old self.new) }
         ensures falls { IfOk result (λ more. more ≡ true → turns_left self.new < turns_left self.old) }
         ensures gives { IfOk result (λ more. more ≡ true → self.new.hand ≡ hands.Gives) }
         ensures settled { IfOk result (λ more. more ≡ false → IsSettled self.new) }
@@ -188,8 +188,8 @@ impl Machine {
     ) -> Result<(), AllocError>
         requires fine { IsFineMachine prog.now self.old }
         requires holding { Holding (D.fixed desk.old).caller (self.old.state.made + 1) (frames_of self.old.frames.items) (D.front desk.old) }
-        requires own { IsOwnCache prog.now (N.known names.old) (N.asked names.old) (D.fixed desk.old).caller (D.front desk.old) self.old.state.cache }
-        ensures carries { OnOk result (Carries prog.now (D.fixed desk.old).caller (N.known names.new) (N.asked names.old) (N.asked names.new) (D.front desk.old) (D.front desk.new) self.old self.new) }
+        requires cache { IsTrueCache prog.now (N.known names.old) (N.asked names.old) (D.fixed desk.old).caller (D.front desk.old) self.old.state.cache }
+        ensures carries { OnOk result (Carries prog.now (D.fixed desk.old).caller (N.known names.old) (N.known names.new) (N.asked names.old) (N.asked names.new) (D.front desk.old) (D.front desk.new) self.old self.new) }
         ensures settled { OnOk result (IsSettled self.new) }
         ensures holding { Holding (D.fixed desk.old).caller (self.new.state.made + 1) (frames_of self.new.frames.items) (D.front desk.new) }
         ensures stays { Stays (D.fixed desk.old) (D.fixed desk.new) (D.front desk.old) (D.front desk.new) (N.known names.old) (N.known names.new) }
@@ -213,8 +213,7 @@ impl Machine {
         requires fine { (t : Table) × IsFineMachine t self.old }
         requires stops { self.old.hand ≡ hands.Stops }
         requires holding { Holding (D.fixed desk.old).caller (self.old.state.made + 1) (frames_of self.old.frames.items) (D.front desk.old) }
-        ensures unwinds { (t : Table) → IsFineMachine t self.old → (known asked : List Name) → IsOwnCache t known asked (D.fixed desk.old).caller (D.front desk.old) self.old.state.cache
-            → Carries t (D.fixed desk.old).caller known asked asked (D.front desk.old) (D.front desk.new) self.old self.new }
+        ensures unwinds { (t : Table) → IsFineMachine t self.old → (known asked : List Name) → Carries t (D.fixed desk.old).caller known known asked asked (D.front desk.old) (D.front desk.new) self.old self.new }
         ensures rest { IsAtRest self.new }
         ensures calls { SameCalls self.old.state self.new.state }
         ensures holding { Holding (D.fixed desk.old).caller (self.new.state.made + 1) (frames_of self.new.frames.items) (D.front desk.new) }
@@ -235,8 +234,7 @@ impl Machine {
         requires fine { (t : Table) × IsFineMachine t self.old }
         requires settled { IsSettled self.old }
         requires holding { Holding (D.fixed desk.old).caller (self.old.state.made + 1) (frames_of self.old.frames.items) (D.front desk.old) }
-        ensures unwinds { (t : Table) → IsFineMachine t self.old → (known asked : List Name) → IsOwnCache t known asked (D.fixed desk.old).caller (D.front desk.old) self.old.state.cache
-            → Carries t (D.fixed desk.old).caller known asked asked (D.front desk.old) (D.front desk.new) self.old self.new }
+        ensures unwinds { (t : Table) → IsFineMachine t self.old → (known asked : List Name) → Carries t (D.fixed desk.old).caller known known asked asked (D.front desk.old) (D.front desk.new) self.old self.new }
         ensures rest { IsAtRest self.new }
         ensures calls { SameCalls self.old.state self.new.state }
         ensures holding { Holding (D.fixed desk.old).caller (self.new.state.made + 1) (frames_of self.new.frames.items) (D.front desk.new) }
@@ -264,8 +262,8 @@ impl Machine {
     ) -> Result<(), AllocError>
         requires fine { IsFineMachine prog.now self.old }
         requires holding { Holding (D.fixed desk.old).caller (self.old.state.made + 1) (frames_of self.old.frames.items) (D.front desk.old) }
-        requires own { IsOwnCache prog.now (N.known names.old) (N.asked names.old) (D.fixed desk.old).caller (D.front desk.old) self.old.state.cache }
-        ensures carries { OnOk result (Carries prog.now (D.fixed desk.old).caller (N.known names.new) (N.asked names.old) (N.asked names.new) (D.front desk.old) (D.front desk.new) self.old self.new) }
+        requires cache { IsTrueCache prog.now (N.known names.old) (N.asked names.old) (D.fixed desk.old).caller (D.front desk.old) self.old.state.cache }
+        ensures carries { OnOk result (Carries prog.now (D.fixed desk.old).caller (N.known names.old) (N.known names.new) (N.asked names.old) (N.asked names.new) (D.front desk.old) (D.front desk.new) self.old self.new) }
         ensures rest { OnOk result (IsAtRest self.new) }
         ensures holding { Holding (D.fixed desk.old).caller (self.new.state.made + 1) (frames_of self.new.frames.items) (D.front desk.new) }
         ensures stays { Stays (D.fixed desk.old) (D.fixed desk.new) (D.front desk.old) (D.front desk.new) (N.known names.old) (N.known names.new) }
@@ -284,7 +282,7 @@ impl Machine {
     fn begin_one(&mut self, alloc: Global, prog: &Program) -> Result<(), AllocError>
         requires fine { IsFineMachine prog.now self.old }
         requires begins { self.old.hand ≡ hands.Begins }
-        ensures begins { (c : ℕ) (known asked : List Name) (log : List Entry) → IsOwnCache prog.now known asked c log self.old.state.cache → OnOk result (Begins prog.now c known asked asked log log self.old self.new) }
+        ensures begins { (c : ℕ) (known asked : List Name) (log : List Entry) → OnOk result (Begins prog.now c known known asked asked log log self.old self.new) }
         ensures calls { SameCalls self.old.state self.new.state }
         ensures frames { self.new.frames ≡ self.old.frames }
         ensures caller { self.new.caller ≡ self.old.caller }
@@ -306,9 +304,9 @@ impl Machine {
     ) -> Result<(), AllocError>
         requires fine { IsFineMachine prog.now self.old }
         requires holding { Holding (D.fixed desk.old).caller (self.old.state.made + 1) (frames_of self.old.frames.items) (D.front desk.old) }
-        requires own { IsOwnCache prog.now (N.known names.old) (N.asked names.old) (D.fixed desk.old).caller (D.front desk.old) self.old.state.cache }
+        requires cache { IsTrueCache prog.now (N.known names.old) (N.asked names.old) (D.fixed desk.old).caller (D.front desk.old) self.old.state.cache }
         requires begins { self.old.hand ≡ hands.Begins }
-        ensures begins { OnOk result (Begins prog.now (D.fixed desk.old).caller (N.known names.new) (N.asked names.old) (N.asked names.new) (D.front desk.old) (D.front desk.new) self.old self.new) }
+        ensures begins { OnOk result (Begins prog.now (D.fixed desk.old).caller (N.known names.old) (N.known names.new) (N.asked names.old) (N.asked names.new) (D.front desk.old) (D.front desk.new) self.old self.new) }
         ensures rest { OnOk result (IsAtRest self.new) }
         ensures holding { Holding (D.fixed desk.old).caller (self.new.state.made + 1) (frames_of self.new.frames.items) (D.front desk.new) }
         ensures stays { Stays (D.fixed desk.old) (D.fixed desk.new) (D.front desk.old) (D.front desk.new) (N.known names.old) (N.known names.new) }
@@ -385,8 +383,8 @@ impl Machine {
         requires fine { IsFineMachine prog.now self.old }
         requires going { IsGoing self.old }
         requires holding { Holding (D.fixed desk.old).caller (self.old.state.made + 1) (frames_of self.old.frames.items) (D.front desk.old) }
-        requires own { IsOwnCache prog.now (N.known names.old) (N.asked names.old) (D.fixed desk.old).caller (D.front desk.old) self.old.state.cache }
-        ensures advances { OnOk result (Advances prog.now (D.fixed desk.old).caller (N.known names.new) (N.asked names.old) (N.asked names.new) (D.front desk.old) (D.front desk.new) self.old self.new) }
+        requires cache { IsTrueCache prog.now (N.known names.old) (N.asked names.old) (D.fixed desk.old).caller (D.front desk.old) self.old.state.cache }
+        ensures advances { OnOk result (Advances prog.now (D.fixed desk.old).caller (N.known names.old) (N.known names.new) (N.asked names.old) (N.asked names.new) (D.front desk.old) (D.front desk.new) self.old self.new) }
         ensures turns { IfOk result (λ turn. Turns turn self.old self.new) }
         ensures begun { IfOk result (λ turn. HasBegun turn self.old self.new) }
         ensures quiet { OnOk result (self.new.state.begun ≡ self.old.state.begun → D.front desk.new ≡ D.front desk.old) }
@@ -549,7 +547,7 @@ impl Machine {
         requires fine { IsFineMachine prog.now self.old }
         requires going { IsGoing self.old }
         requires holding { Holding (D.fixed desk.old).caller (self.old.state.made + 1) (frames_of self.old.frames.items) (D.front desk.old) }
-        requires own { IsOwnCache prog.now (N.known names.old) (N.asked names.old) (D.fixed desk.old).caller (D.front desk.old) self.old.state.cache }
+        requires cache { IsTrueCache prog.now (N.known names.old) (N.asked names.old) (D.fixed desk.old).caller (D.front desk.old) self.old.state.cache }
         ensures fine { OnOk result (IsFineMachine prog.now self.new) }
         ensures stands { OnOk result ((block steps : ℕ) (done : List (ℕ × Act)) → StandsFor prog.now (N.known names.old) block steps done self.old
             → (more : List Act) × (acts (D.fixed desk.old).caller (D.front desk.new) ≡ acts (D.fixed desk.old).caller (D.front desk.old) ++ more) × StandsFor prog.now (N.known names.new) block steps (done ++ tagged self.new.state.begun more) self.new) }
@@ -557,7 +555,7 @@ impl Machine {
         ensures begun { IfOk result (λ turn. HasBegun turn self.old self.new) }
         ensures quiet { OnOk result (self.new.state.begun ≡ self.old.state.begun → D.front desk.new ≡ D.front desk.old) }
         ensures holding { OnOk result (Holding (D.fixed desk.old).caller (self.new.state.made + 1) (frames_of self.new.frames.items) (D.front desk.new)) }
-        ensures own { OnOk result (IsOwnCache prog.now (N.known names.new) (N.asked names.new) (D.fixed desk.old).caller (D.front desk.new) self.new.state.cache) }
+        ensures own { OnOk result (KeepsChecks prog.now (D.fixed desk.old).caller (N.known names.old) (N.known names.new) (N.asked names.old) (N.asked names.new) (D.front desk.old) (D.front desk.new) self.old.state.cache self.new.state.cache) }
         // Each call that entered on a fresh check gave its derivation to the share, while there was room.
         ensures shares { OnOk result (Shares prog.now (N.known names.new) (D.fixed desk.old).caller (D.front desk.old) (D.front desk.new) share.old share.new) }
         // The caller of a run that has ended holds nothing.

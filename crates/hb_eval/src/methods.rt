@@ -7,7 +7,7 @@ ghost use Rattle.hb_names.specs.Names.{Differ};
 ghost use Rattle.hb_tables.specs.History.{IsLegal};
 ghost use Rattle.hb_call.specs.Held.{stands};
 ghost use Rattle.hb_call.specs.Growth.{Grown};
-ghost use Rattle.hb_eval.specs.Keeping.{KeepsOwn};
+ghost use Rattle.hb_call.specs.OwnCache.{KeepsChecks};
 ghost use Rattle.hb_eval.specs.Methods as methods;
 ghost use Rattle.hb_eval.specs.Steps.{IsPlain, Still, AreKnown, Keeps, weigh_push};
 ghost use Rattle.hb_eval.specs.Tables.{ActsOn};
@@ -47,7 +47,7 @@ pub(crate) fn define<D: Desk, N: Names>(
     ensures kept { IsPrefix (D.front desk.old) (D.front desk.new) }
     ensures others { (q : ℕ) → stands (D.fixed desk.old).caller q (D.front desk.new) ≡ stands (D.fixed desk.old).caller q (D.front desk.old) }
     ensures grown { (t : Table) → OnOk result (Grown t (D.fixed desk.old).caller (N.known names.new) (N.asked names.old) (N.asked names.new) (D.front desk.old) (D.front desk.new)) }
-    ensures own { (t : Table) → OnOk result (KeepsOwn t (D.fixed desk.old).caller (N.known names.old) (N.known names.new) (N.asked names.old) (N.asked names.new) (D.front desk.old) (D.front desk.new) state.old.cache state.new.cache) }
+    ensures own { (t : Table) → OnOk result (KeepsChecks t (D.fixed desk.old).caller (N.known names.old) (N.known names.new) (N.asked names.old) (N.asked names.new) (D.front desk.old) (D.front desk.new) state.old.cache state.new.cache) }
     ensures legal { IsLegal (D.fixed desk.old).limit (D.front desk.old) → IsLegal (D.fixed desk.old).limit (D.front desk.new) }
     ensures fixed { D.fixed desk.new ≡ D.fixed desk.old }
     ensures named { IsPrefix (N.known names.old) (N.known names.new) }
@@ -91,7 +91,7 @@ pub(crate) fn declare<D: Desk, N: Names>(
     ensures kept { IsPrefix (D.front desk.old) (D.front desk.new) }
     ensures others { (q : ℕ) → stands (D.fixed desk.old).caller q (D.front desk.new) ≡ stands (D.fixed desk.old).caller q (D.front desk.old) }
     ensures grown { (t : Table) → OnOk result (Grown t (D.fixed desk.old).caller (N.known names.new) (N.asked names.old) (N.asked names.new) (D.front desk.old) (D.front desk.new)) }
-    ensures own { (t : Table) → OnOk result (KeepsOwn t (D.fixed desk.old).caller (N.known names.old) (N.known names.new) (N.asked names.old) (N.asked names.new) (D.front desk.old) (D.front desk.new) state.old.cache state.new.cache) }
+    ensures own { (t : Table) → OnOk result (KeepsChecks t (D.fixed desk.old).caller (N.known names.old) (N.known names.new) (N.asked names.old) (N.asked names.new) (D.front desk.old) (D.front desk.new) state.old.cache state.new.cache) }
     ensures legal { IsLegal (D.fixed desk.old).limit (D.front desk.old) → IsLegal (D.fixed desk.old).limit (D.front desk.new) }
     ensures fixed { D.fixed desk.new ≡ D.fixed desk.old }
     ensures named { IsPrefix (N.known names.old) (N.known names.new) }

@@ -7,7 +7,7 @@ ghost use Rattle.hb_tree.specs.TreeAt.{IsExprAt, tree_at};
 ghost use Rattle.hb_call.specs.Held.{stands};
 ghost use Rattle.hb_call.specs.Growth.{Grown};
 ghost use Rattle.hb_eval.specs.declared.cont.Cont.TheVariants as cont;
-ghost use Rattle.hb_eval.specs.Keeping.{KeepsOwn};
+ghost use Rattle.hb_call.specs.OwnCache.{KeepsChecks};
 ghost use Rattle.hb_eval.specs.Machine.{method_named};
 ghost use Rattle.hb_eval.specs.Steps.{AreKnown, IsComputed, IsFine, IsPlain, Keeps, Still, weigh_push};
 ghost use Rattle.hb_eval.specs.Tables.{ActsOn};
@@ -89,7 +89,7 @@ fn method_computed<D: Desk, N: Names>(
     ensures stays { Stays (D.fixed desk.old) (D.fixed desk.new) (D.front desk.old) (D.front desk.new) (N.known names.old) (N.known names.new) }
     ensures others { (q : ℕ) → stands (D.fixed desk.old).caller q (D.front desk.new) ≡ stands (D.fixed desk.old).caller q (D.front desk.old) }
     ensures grown { (t : Table) → OnOk result (Grown t (D.fixed desk.old).caller (N.known names.new) (N.asked names.old) (N.asked names.new) (D.front desk.old) (D.front desk.new)) }
-    ensures own { (t : Table) → OnOk result (KeepsOwn t (D.fixed desk.old).caller (N.known names.old) (N.known names.new) (N.asked names.old) (N.asked names.new) (D.front desk.old) (D.front desk.new) state.old.cache state.new.cache) }
+    ensures own { (t : Table) → OnOk result (KeepsChecks t (D.fixed desk.old).caller (N.known names.old) (N.known names.new) (N.asked names.old) (N.asked names.new) (D.front desk.old) (D.front desk.new) state.old.cache state.new.cache) }
     ensures alike { N.alike names.old names.new }
 {
     let value = mem::replace(&mut state.acc, Value::Nil);
@@ -130,7 +130,7 @@ pub(crate) fn method<D: Desk, N: Names>(
     ensures stays { Stays (D.fixed desk.old) (D.fixed desk.new) (D.front desk.old) (D.front desk.new) (N.known names.old) (N.known names.new) }
     ensures others { (q : ℕ) → stands (D.fixed desk.old).caller q (D.front desk.new) ≡ stands (D.fixed desk.old).caller q (D.front desk.old) }
     ensures grown { (t : Table) → OnOk result (Grown t (D.fixed desk.old).caller (N.known names.new) (N.asked names.old) (N.asked names.new) (D.front desk.old) (D.front desk.new)) }
-    ensures own { (t : Table) → OnOk result (KeepsOwn t (D.fixed desk.old).caller (N.known names.old) (N.known names.new) (N.asked names.old) (N.asked names.new) (D.front desk.old) (D.front desk.new) state.old.cache state.new.cache) }
+    ensures own { (t : Table) → OnOk result (KeepsChecks t (D.fixed desk.old).caller (N.known names.old) (N.known names.new) (N.asked names.old) (N.asked names.new) (D.front desk.old) (D.front desk.new) state.old.cache state.new.cache) }
     ensures alike { N.alike names.old names.new }
 {
     match prog.node(id) {

@@ -3,7 +3,7 @@
 ghost use Rattle.std.specs.Prelude.{◌≡◌, ◌+◌, ℕ, List, IfOk, OnOk};
 ghost use Rattle.hb_call.specs.Growth.{Grown};
 ghost use Rattle.hb_call.specs.Held.{stands};
-ghost use Rattle.hb_call.specs.OwnCache.{IsOwnCache};
+ghost use Rattle.hb_call.specs.OwnCache.{IsTrueCache, KeepsChecks};
 ghost use Rattle.hb_eval.specs.declared.framed.Framed.{Framed as Kept};
 ghost use Rattle.hb_eval.specs.Machine.{frames_in, need};
 ghost use Rattle.hb_eval.specs.Steps.{AreKnown, IsFine, Still, weigh_one};
@@ -12,7 +12,6 @@ ghost use Rattle.hb_eval.specs.Quiet.{IsRare};
 ghost use Rattle.hb_eval.specs.Turns.{Ready, Turned, with_value};
 ghost use Rattle.hb_eval.specs.Gathering.{Shares};
 ghost use Rattle.hb_eval.specs.Holding.{Holding, frames_of};
-ghost use Rattle.hb_eval.specs.Keeping.{KeepsOwn};
 ghost use Rattle.hb_eval.specs.Staying.{Stays};
 
 use crate::blocks::{choose, items, test, turn};
@@ -51,7 +50,7 @@ fn apply_rarely<D: Desk, N: Names>(
     ensures stays { Stays (D.fixed desk.old) (D.fixed desk.new) (D.front desk.old) (D.front desk.new) (N.known names.old) (N.known names.new) }
     ensures others { (q : ℕ) → stands (D.fixed desk.old).caller q (D.front desk.new) ≡ stands (D.fixed desk.old).caller q (D.front desk.old) }
     ensures grown { OnOk result (Grown prog.now (D.fixed desk.old).caller (N.known names.new) (N.asked names.old) (N.asked names.new) (D.front desk.old) (D.front desk.new)) }
-    ensures own { OnOk result (KeepsOwn prog.now (D.fixed desk.old).caller (N.known names.old) (N.known names.new) (N.asked names.old) (N.asked names.new) (D.front desk.old) (D.front desk.new) state.old.cache state.new.cache) }
+    ensures own { OnOk result (KeepsChecks prog.now (D.fixed desk.old).caller (N.known names.old) (N.known names.new) (N.asked names.old) (N.asked names.new) (D.front desk.old) (D.front desk.new) state.old.cache state.new.cache) }
     ensures alike { N.alike names.old names.new }
 {
     match cont {
@@ -78,14 +77,14 @@ pub(crate) fn apply<D: Desk, N: Names>(
 ) -> Result<Hand, AllocError>
     requires ready { Ready prog.now cont frames.old.items state.old }
     requires holding { Holding (D.fixed desk.old).caller (state.old.made + 1) (frames_of frames.old.items) (D.front desk.old) }
-    requires own { IsOwnCache prog.now (N.known names.old) (N.asked names.old) (D.fixed desk.old).caller (D.front desk.old) state.old.cache }
+    requires cache { IsTrueCache prog.now (N.known names.old) (N.asked names.old) (D.fixed desk.old).caller (D.front desk.old) state.old.cache }
     ensures turned { IfOk result (Turned prog.now (N.known names.new) (D.fixed desk.old).caller (D.front desk.old) (D.front desk.new) (need cont) (frames_in cont) (calls_in cont) (weigh_one cont) frames.old.items state.old frames.new.items state.new
         (with_value prog.now cont frames.old.items state.old) conts.old.items conts.new.items) }
     ensures timed { (state.new.begun ≡ state.old.begun) × (state.new.fuel ≡ state.old.fuel) }
     ensures holding { Holding (D.fixed desk.old).caller (state.new.made + 1) (frames_of frames.new.items) (D.front desk.new) }
     ensures stays { Stays (D.fixed desk.old) (D.fixed desk.new) (D.front desk.old) (D.front desk.new) (N.known names.old) (N.known names.new) }
     ensures grown { OnOk result (Grown prog.now (D.fixed desk.old).caller (N.known names.new) (N.asked names.old) (N.asked names.new) (D.front desk.old) (D.front desk.new)) }
-    ensures own { OnOk result (IsOwnCache prog.now (N.known names.new) (N.asked names.new) (D.fixed desk.old).caller (D.front desk.new) state.new.cache) }
+    ensures own { OnOk result (KeepsChecks prog.now (D.fixed desk.old).caller (N.known names.old) (N.known names.new) (N.asked names.old) (N.asked names.new) (D.front desk.old) (D.front desk.new) state.old.cache state.new.cache) }
     ensures shares { OnOk result (Shares prog.now (N.known names.new) (D.fixed desk.old).caller (D.front desk.old) (D.front desk.new) share.old share.new) }
     ensures alike { N.alike names.old names.new }
 {

@@ -10,6 +10,8 @@ use Rattle.hb_tables.specs.declared.entry.Act.{Act}
 use Rattle.hb_tables.specs.Answers.{Fixed}
 use Rattle.hb_tables.specs.Frames.{acts}
 use Rattle.hb_call.specs.Growth.{Grown}
+use Rattle.hb_call.specs.OwnCache.{KeepsChecks}
+use Rattle.hb_call.specs.OwnLaws.{keeps_itself, keeps_on}
 use Rattle.hb_call.specs.GrowthLaws.{grown_itself, grown_on, prefix_itself, prefix_more}
 use Rattle.hb_eval.specs.declared.machine.Machine.{Machine}
 use Rattle.hb_eval.specs.Machines.{StandsFor, keeps}
@@ -22,6 +24,7 @@ went_itself t door names asked log m = record {
   goes = record { made = []; grows = sym (append-nil (acts door.caller log)); stands = λ block steps done s. subst (λ (l : List (ℕ × Act)). StandsFor t names block steps l m) (sym (append-nil done)) s };
   stays = record { fixed = refl; kept = prefix_itself log; legal = λ x. x; named = prefix_itself names; few = λ x. x; differ = λ x. x };
   grown = grown_itself t door.caller names asked log;
+  checks = keeps_itself t door.caller names asked log m.state.cache;
   caller = refl;
   keeps = refl;
 }
@@ -36,25 +39,25 @@ pub went_turn : (t : Table) (door later latest : Fixed) (names known more : List
     → Went t door later names known was asked log now old mid
     → ((block steps : ℕ) (done : List (ℕ × Act)) → StandsFor t known block steps done mid
     → (made : List Act) × (acts later.caller last ≡ acts later.caller now ++ made) × StandsFor t more block steps (done ++ tagged begun made) new)
-    → Stays later latest now last known more → Grown t later.caller more asked again now last → new.caller ≡ mid.caller → keeps new ≡ keeps mid
+    → Stays later latest now last known more → Grown t later.caller more asked again now last → KeepsChecks t later.caller known more asked again now last mid.state.cache new.state.cache → new.caller ≡ mid.caller → keeps new ≡ keeps mid
     → Went t door latest names more was again log last old new
-went_turn t door later latest names known more was asked again log now last old mid new begun w turn stays grown caller kept =
-    go later w.stays.fixed w turn stays grown
+went_turn t door later latest names known more was asked again log now last old mid new begun w turn stays grown checks caller kept =
+    go later w.stays.fixed w turn stays grown checks
   where
     go : (mine : Fixed) → mine ≡ door → Went t door mine names known was asked log now old mid
         → ((block steps : ℕ) (done : List (ℕ × Act)) → StandsFor t known block steps done mid
         → (made : List Act) × (acts mine.caller last ≡ acts mine.caller now ++ made) × StandsFor t more block steps (done ++ tagged begun made) new)
-        → Stays mine latest now last known more → Grown t mine.caller more asked again now last
+        → Stays mine latest now last known more → Grown t mine.caller more asked again now last → KeepsChecks t mine.caller known more asked again now last mid.state.cache new.state.cache
         → Went t door latest names more was again log last old new
-    go mine same w turn stays grown = by (subst (λ (d : Fixed). Parts d) same (turn, stays, grown))
+    go mine same w turn stays grown checks = by (subst (λ (d : Fixed). Parts d) same (turn, stays, grown, checks))
       where
         Parts : Fixed → Type 0
         Parts d = ((block steps : ℕ) (done : List (ℕ × Act)) → StandsFor t known block steps done mid
             → (made : List Act) × (acts d.caller last ≡ acts d.caller now ++ made) × StandsFor t more block steps (done ++ tagged begun made) new)
-            × Stays d latest now last known more × Grown t d.caller more asked again now last
+            × Stays d latest now last known more × Grown t d.caller more asked again now last × KeepsChecks t d.caller known more asked again now last mid.state.cache new.state.cache
 
         by : Parts door → Went t door latest names more was again log last old new
-        by (turn, stays, grown) = record {
+        by (turn, stays, grown, checks) = record {
           goes = record {
             made = w.goes.made ++ tagged begun grown.made;
             grows =
@@ -78,6 +81,7 @@ went_turn t door later latest names known more was asked again log now last old 
             differ = λ x. stays.differ (w.stays.differ x);
           };
           grown = grown_on t door.caller known more was asked again log now last w.grown grown stays.named;
+          checks = keeps_on t door.caller names known more was asked again log now last old.state.cache mid.state.cache new.state.cache stays.kept w.checks checks;
           caller = caller ∙ w.caller;
           keeps = kept ∙ w.keeps;
         }
@@ -92,6 +96,10 @@ ran-alone t door later names known was log now old new w no_names no_asked no_lo
   grown = subst (λ (c : ℕ). Grown t c known [] known [] now) first
       (subst (λ (l : List Entry). Grown t door.caller known [] known l now) no_log
       (subst (λ (n : List Name). Grown t door.caller known n known log now) no_asked w.grown));
+  checks = subst (λ (c : ℕ). KeepsChecks t c [] known [] known [] now old.state.cache new.state.cache) first
+      (subst (λ (l : List Entry). KeepsChecks t door.caller [] known [] known l now old.state.cache new.state.cache) no_log
+      (subst (λ (n : List Name). KeepsChecks t door.caller [] known n known log now old.state.cache new.state.cache) no_asked
+      (subst (λ (n : List Name). KeepsChecks t door.caller n known was known log now old.state.cache new.state.cache) no_names w.checks)));
   few = w.stays.few (subst (λ (n : List Name). length n ≤ NAMES_MAX) (sym no_names) (omega arith));
   differ = w.stays.differ (subst Differ (sym no_names) (λ i j name x y. absurd (none i x)));
 }

@@ -16,8 +16,9 @@ use Rattle.hb_tables.specs.Frames.{acts}
 use Rattle.hb_tables.specs.History.{key_of, spot, entry, Every, FitsAct, IsLegal}
 use Rattle.hb_tables.proofs.HoldingLemmas.{holds_since}
 use Rattle.hb_tables.specs.Plain.{AreOwn}
-use Rattle.hb_call.specs.Growth.{Grown, asked_after, asked_by, with_found, with_key}
-use Rattle.hb_call.specs.Rules.{FitsRules}
+use Rattle.hb_call.specs.OwnCache.{IsOwnCache}
+use Rattle.hb_call.specs.Growth.{EachNew, Grown, asked_after, asked_by, with_found, with_key}
+use Rattle.hb_call.specs.Rules.{EntersBy, FitsRules}
 use Rattle.hb_eval.specs.Calls.{call_in}
 use Rattle.hb_eval.specs.Runs.{Run, script_run}
 use Rattle.hb_eval.specs.Told.{Told, told, told_by}
@@ -42,6 +43,7 @@ pub history-none : (t : Table) (limit steps : ℕ) → t.setup ≡ None → leng
 history-none t limit steps setup scripts = record {
   legal = λ before after e is. absurd (none_there before after e is);
   rules = λ before after e is. absurd (none_there before after e is);
+  ways = λ before after e is. absurd (none_there before after e is);
   differ = λ i j name x y. absurd (empty i x);
   few = omega arith;
   keys = λ before after e is. absurd (none_there before after e is);
@@ -192,12 +194,13 @@ key-below t names limit log rules legal before after e is =
 -- the one script's run makes the history of its program
 pub history-alone : (t : Table) (limit steps : ℕ) (names : List Name) (log : List Entry) (block : NodeId) (r : Told) (run : Run)
     → t.setup ≡ None → length t.scripts ≡ 1 → block_of t 1 ≡ Some block → IsLegal limit log → Differ names → length names ≤ NAMES_MAX
-    → Grown t 1 names [] names [] log → AreOwn 1 log
+    → Grown t 1 names [] names [] log → EachNew (EntersBy 1 []) 1 [] log → AreOwn 1 log
     → script_run t names (call_in t names 4096) block.0 steps (acts 1 log) ≡ Some run → r ≡ told 1 run
     → IsHistory t limit steps names log (r ∷ [])
-history-alone t limit steps names log block r run setup scripts runs legal differ few grown own reads tells = record {
+history-alone t limit steps names log block r run setup scripts runs legal differ few grown entered own reads tells = record {
   legal = legal;
   rules = rules;
+  ways = λ before after e is. subst (λ (c : ℕ). EntersBy c [] before e.act) (sym (mine before after e is)) (entered before after e is (before, refl) (mine before after e is));
   differ = differ;
   few = few;
   keys = key-below t names limit log rules legal;
@@ -222,11 +225,11 @@ history-alone t limit steps names log block r run setup scripts runs legal diffe
 -- The machine that ran alone to its end tells the run of the one script.
 pub history-ran : (t : Table) (limit steps : ℕ) (names : List Name) (log : List Entry) (block : NodeId) (old new : Machine) (r : ScriptRun)
     → t.setup ≡ None → length t.scripts ≡ 1 → block_of t 1 ≡ Some block → IsLegal limit log → AreOwn 1 log → RanAlone t names log old new
-    → StandsFor t [] block.0 steps [] old → new.caller.0 ≡ 1
+    → StandsFor t [] block.0 steps [] old → IsOwnCache t [] [] 1 (Some []) [] old.state.cache → new.caller.0 ≡ 1
     → ((done : List (ℕ × Act)) → StandsFor t names block.0 steps done new → Finishes t names block.0 steps done new r)
-    → IsHistory t limit steps names log (told_by r ∷ [])
-history-ran t limit steps names log block old new r setup scripts runs legal own ran stands first finish =
+    → IsHistory t limit steps names log (r ∷ [])
+history-ran t limit steps names log block old new r setup scripts runs legal own ran stands empty first finish =
     let done = finish ran.goes.made (ran.goes.stands block.0 steps [] stands) in
-    history-alone t limit steps names log block (told_by r) done.run setup scripts runs legal ran.differ ran.few ran.grown own
+    history-alone t limit steps names log block r done.run setup scripts runs legal ran.differ ran.few ran.grown (ran.checks.ways [] empty) own
     (ap (λ (l : List Act). script_run t names (call_in t names 4096) block.0 steps l) ran.goes.grows ∙ done.reads)
     (done.tells ∙ ap (λ (c : ℕ). told c done.run) first)

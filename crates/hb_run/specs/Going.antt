@@ -8,6 +8,7 @@ use Rattle.hb_tables.specs.declared.entry.Act.{Act}
 use Rattle.hb_tables.specs.Answers.{Fixed}
 use Rattle.hb_tables.specs.Frames.{acts}
 use Rattle.hb_call.specs.Growth.{Grown}
+use Rattle.hb_call.specs.OwnCache.{KeepsChecks}
 use Rattle.hb_eval.specs.declared.machine.Machine.{Machine}
 use Rattle.hb_eval.specs.Machines.{StandsFor, keeps}
 use Rattle.hb_eval.specs.Staying.{Stays}
@@ -23,6 +24,7 @@ pub record Went (t : Table) (door later : Fixed) (names known was asked : List N
   pub goes : GoesOn t door.caller names known log now old new
   pub stays : Stays door later log now names known
   pub grown : Grown t door.caller known was asked log now
+  pub checks : KeepsChecks t door.caller names known was asked log now old.state.cache new.state.cache
   pub caller : new.caller ≡ old.caller
   pub keeps : keeps new ≡ keeps old
 
@@ -30,5 +32,6 @@ pub record Went (t : Table) (door later : Fixed) (names known was asked : List N
 pub record RanAlone (t : Table) (names : List Name) (log : List Entry) (old new : Machine) : Type 0 where
   pub goes : GoesOn t 1 [] names [] log old new
   pub grown : Grown t 1 names [] names [] log
+  pub checks : KeepsChecks t 1 [] names [] names [] log old.state.cache new.state.cache
   pub few : length names ≤ NAMES_MAX
   pub differ : Differ names

@@ -8,8 +8,9 @@ use Rattle.hb_names.specs.Names.{Name, Differ}
 use Rattle.hb_tables.specs.declared.entry.Entry.{Entry}
 use Rattle.hb_tables.specs.Frames.{acts}
 use Rattle.hb_tables.specs.History.{key_of, Every, IsLegal}
-use Rattle.hb_call.specs.Rules.{FitsRules}
-use Rattle.hb_eval.specs.{Calls.call_in, Runs.Run, Runs.script_run}
+use Rattle.hb_call.specs.Rules.{EntersBy, FitsRules}
+use Rattle.hb_eval.specs.Calls.{call_in}
+use Rattle.hb_eval.specs.Runs.{Run, script_run}
 use Rattle.hb_eval.specs.Told.{Told, is_done, told}
 
 -- the block that a caller runs: the caller 0 the setup's, and the caller i that of the i-th script
@@ -63,6 +64,7 @@ IsUsed names log key = (before : List Entry) × (after : List Entry) × (e : Ent
 pub record IsHistory (t : Table) (limit steps : ℕ) (names : List Name) (log : List Entry) (runs : List Told) : Type 0 where
   pub legal : IsLegal limit log
   pub rules : Every (λ before e. FitsRules t names e.caller.0 before e.act) log
+  pub ways : Every (λ before e. EntersBy e.caller.0 [] before e.act) log
   pub differ : Differ names
   pub few : length names ≤ NAMES_MAX
   pub keys : Every (λ before e. key_of e.act < length names) log

@@ -6,7 +6,7 @@ ghost use Rattle.hb_names.specs.Names.{Name};
 ghost use Rattle.hb_tables.specs.declared.entry.Entry.{Entry};
 ghost use Rattle.hb_tables.specs.History.{IsLegal};
 ghost use Rattle.hb_tables.specs.Plain.{AreOwn};
-ghost use Rattle.hb_call.specs.OwnCache.{IsOwnCache};
+ghost use Rattle.hb_call.specs.OwnCache.{IsTrueCache};
 ghost use Rattle.hb_eval.specs.Machines.{HasEnded, IsFineMachine, IsGoing};
 ghost use Rattle.hb_eval.specs.Told.{told_by};
 ghost use Rattle.hb_run.specs.Going.{RanAlone};
@@ -83,7 +83,7 @@ fn run_on(
     requires fresh { (machine.old.frames.items ≡ []) × (machine.old.state.made ≡ 0) }
     requires log { tables.old.log ≡ [] }
     requires names { names.old ≡ [] }
-    requires cache { IsOwnCache prog.now [] [] 1 [] machine.old.state.cache }
+    requires cache { IsTrueCache prog.now [] [] 1 [] machine.old.state.cache }
     ensures fine { OnOk result (IsFineMachine prog.now machine.new) }
     ensures ended { OnOk result (HasEnded machine.new) }
     ensures ran { OnOk result (RanAlone prog.now names.new tables.new.log machine.old machine.new) }

@@ -3,7 +3,7 @@
 ghost use Rattle.std.specs.Prelude.{◌≡◌, ◌+◌, ◌≤◌, ℕ, [], length, OnOk};
 ghost use Rattle.hb_names.specs.declared.names.TheConstants.{NAMES_MAX};
 ghost use Rattle.hb_call.specs.Held.{stands};
-ghost use Rattle.hb_call.specs.OwnCache.{IsOwnCache};
+ghost use Rattle.hb_call.specs.OwnCache.{IsTrueCache};
 ghost use Rattle.hb_eval.specs.Holding.{Holding, frames_of};
 ghost use Rattle.hb_eval.specs.Machines.{HasEnded, IsFineMachine, IsGoing};
 ghost use Rattle.hb_eval.specs.Staying.{Stays};
@@ -28,7 +28,7 @@ pub fn run_to_end<D: Desk, N: Names>(
     requires going { IsGoing machine.old }
     requires holding { Holding (D.fixed desk.old).caller (machine.old.state.made + 1) (frames_of machine.old.frames.items) (D.front desk.old) }
     requires few { length (N.known names.old) ≤ NAMES_MAX }
-    requires cache { IsOwnCache prog.now (N.known names.old) (N.asked names.old) (D.fixed desk.old).caller (D.front desk.old) machine.old.state.cache }
+    requires cache { IsTrueCache prog.now (N.known names.old) (N.asked names.old) (D.fixed desk.old).caller (D.front desk.old) machine.old.state.cache }
     ensures fine { OnOk result (IsFineMachine prog.now machine.new) }
     ensures ended { OnOk result (HasEnded machine.new) }
     ensures went { OnOk result (Went prog.now (D.fixed desk.old) (D.fixed desk.new) (N.known names.old) (N.known names.new) (N.asked names.old) (N.asked names.new) (D.front desk.old) (D.front desk.new) machine.old machine.new) }

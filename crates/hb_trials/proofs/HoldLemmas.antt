@@ -1,6 +1,6 @@
 -- What calls hold, and what is kept, while steps are made by hand at a desk.
 use Rattle.std.proofs.Common.{◌≡◌, ℕ, ◌≤◌, List, [], refl, length, sym, ap, ◌∙◌, subst, arith}
-use Rattle.std.specs.Prelude.{map, Option}
+use Rattle.std.specs.Prelude.{map, None, Option, Some}
 use mathlib.Core.List.{IsPrefix}
 use mathlib.Core.Logic.{dite}
 use native.Mathlib.Decide.{ℕ_discrete}
@@ -17,12 +17,13 @@ use Rattle.hb_tables.specs.declared.desk.TypeAnswer.{TypeAnswer}
 use Rattle.hb_tables.specs.declared.desk.TypeAnswer.TheVariants as typed
 use Rattle.hb_tables.specs.declared.desk.DefAnswer.{DefAnswer}
 use Rattle.hb_tables.specs.declared.desk.DefAnswer.TheVariants as defined
+use Rattle.hb_tables.specs.Frames.{acts}
 use Rattle.hb_tables.specs.Answers.{Fixed, TypeAdds, DefAdds}
 use Rattle.hb_tables.specs.Standing.{Stand, count_of}
 use Rattle.hb_tables.proofs.DeskLemmas.{type_apart, def_apart}
 use Rattle.hb_call.specs.Held.{Holds, HasRoom, stands}
-use Rattle.hb_call.specs.OwnCache.{IsOwnCache}
-use Rattle.hb_call.specs.OwnLaws.{own_none}
+use Rattle.hb_call.specs.OwnCache.{IsTrueCache}
+use Rattle.hb_call.specs.OwnLaws.{own_none, own_true}
 use Rattle.hb_eval.specs.Keeping.{StaysOwn}
 use Rattle.hb_eval.proofs.HoldingLemmas.{nothing_held}
 use Rattle.hb_eval.proofs.KeepingLemmas.{keeps_named, stays_left}
@@ -56,31 +57,38 @@ alone_idle q door log alone none p = dite (ℕ_discrete p q) (λ is. subst (λ n
 
 -- The frame of the one call ended.
 pub left_ready : (t : Table) (names asked : List Name) (before door : Fixed) (old new : List Entry) (q : CallNo) (kept : List (Option Kept)) → door ≡ before → q ≡ CALL → IsAloneAt CALL.0 before old
-    → stands before.caller q.0 new ≡ [] → ((p : ℕ) → (p ≡ q.0 → ⊥) → stands before.caller p new ≡ stands before.caller p old) → IsOwnCache t names asked before.caller new kept → IsReady t names asked door new kept
-left_ready t names asked before door old new q kept is called alone none others own = subst (λ (d : Fixed). IsReady t names asked d new kept) (sym is) (record {
+    → stands before.caller q.0 new ≡ [] → ((p : ℕ) → (p ≡ q.0 → ⊥) → stands before.caller p new ≡ stands before.caller p old) → IsTrueCache t names asked before.caller new kept → IsReady t names asked door new kept
+left_ready t names asked before door old new q kept is called alone none others checks = subst (λ (d : Fixed). IsReady t names asked d new kept) (sym is) (record {
   idle = alone_idle q.0 before new (λ p other. others p other ∙ alone p (λ e. other (e ∙ sym (ap (λ (n : CallNo). n.0) called)))) none;
-  own = own;
+  checks = checks;
 })
 
 -- a type that was not set leaves what is kept
 pub type_left : (c : ℕ) (old new : List Entry) (key : KeyId) (site : TypeSite) (answer : TypeAnswer) (kept : List (Option Kept)) → (answer ≡ typed.Done → ⊥) → TypeAdds c old new key site answer → StaysOwn c old new kept kept
 type_left c old new key site typed.Done kept other adds = absurd (other refl)
-type_left c old new key site (typed.Busy pins) kept other adds = stays_left c old new (Busy key pins) kept adds refl
-type_left c old new key site typed.Worn kept other adds = stays_left c old new (WornType key) kept adds refl
+type_left c old new key site (typed.Busy pins) kept other adds = stays_left c old new (Busy key pins) kept adds refl (λ past before. tt)
+type_left c old new key site typed.Worn kept other adds = stays_left c old new (WornType key) kept adds refl (λ past before. tt)
 
 -- and so does a definition that was not set
 pub def_left : (c : ℕ) (old new : List Entry) (key : KeyId) (site : BodySite) (answer : DefAnswer) (kept : List (Option Kept)) → (answer ≡ defined.Done → ⊥) → DefAdds c old new key site answer → StaysOwn c old new kept kept
 def_left c old new key site defined.Done kept other adds = absurd (other refl)
-def_left c old new key site defined.Worn kept other adds = stays_left c old new (WornDef key) kept adds refl
+def_left c old new key site defined.Worn kept other adds = stays_left c old new (WornDef key) kept adds refl (λ past before. tt)
 
--- A name was asked for, and behind that each call holds what it held and what is kept stays the caller's own.
+-- A name was asked for, and behind that each call holds what it held and what is kept stays true.
 pub ready_on : (t : Table) (names known was asked : List Name) (name : Name) (before door : Fixed) (old new : List Entry) (kept left : List (Option Kept)) → IsPrefix names known → asked ≡ with_name was name → door ≡ before
     → HoldSame before door old new → StaysOwn before.caller old new kept left → StaysReady t names known was asked before door old new kept left
 ready_on t names known was asked name before door old new kept left longer named is same stays ready = record {
   idle = same_idle before door old new same ready.idle;
-  own = subst (λ (d : Fixed). IsOwnCache t known asked d.caller new left) (sym is) (keeps_named t before.caller names known was asked name old new kept left longer named stays ready.own);
+  checks = subst (λ (d : Fixed). IsTrueCache t known asked d.caller new left) (sym is) ((keeps_named t before.caller names known was asked name old new kept left longer named stays).own None ready.checks);
 }
+
+none_true : (t : Table) (names asked : List Name) (c : ℕ) (log : List Entry) → IsTrueCache t names asked c log []
+none_true t names asked c log = own_true t names asked c (Some (acts c log)) log [] (own_none t names asked c log [] (λ k. refl))
 
 -- Nothing was done yet, and nothing is kept.
 pub ready_first : (t : Table) (names asked : List Name) (door : Fixed) → IsReady t names asked door [] []
-ready_first t names asked door = record { idle = λ q. refl; own = own_none t names asked door.caller [] [] refl (λ k. refl) }
+ready_first t names asked door = record { idle = λ q. refl; checks = none_true t names asked door.caller [] }
+
+-- Nothing is kept, whatever was done.
+pub ready_anew : (t : Table) (names asked : List Name) (door : Fixed) (log : List Entry) (kept : List (Option Kept)) → IsReady t names asked door log kept → IsReady t names asked door log []
+ready_anew t names asked door log kept ready = record { idle = ready.idle; checks = none_true t names asked door.caller log }

@@ -8,7 +8,7 @@ use Rattle.hb_tables.specs.Answers.{Fixed}
 use Rattle.hb_call.specs.declared.frame.Entered.{Entered}
 use Rattle.hb_call.specs.declared.frame.Entered.TheVariants as entered
 use Rattle.hb_call.specs.Held.{stands}
-use Rattle.hb_call.specs.OwnCache.{IsOwnCache}
+use Rattle.hb_call.specs.OwnCache.{IsTrueCache}
 use Rattle.hb_trials.specs.declared.desks.TheConstants.{CALL}
 
 -- none of them holds a key
@@ -28,10 +28,10 @@ abbrev pub FreedIfRefused : Fixed → List Entry → Entered → Type 0
 FreedIfRefused door log (entered.Frame f way) = Unit {0}
 FreedIfRefused door log (entered.Refused v) = stands door.caller CALL.0 log ≡ []
 
--- no call of the caller holds a key, and what is kept is the caller's own
+-- no call of the caller holds a key, and what is kept is true
 pub record IsReady (t : Table) (names asked : List Name) (door : Fixed) (log : List Entry) (cache : List (Option Kept)) : Type 0 where
   pub idle : IsIdle door log
-  pub own : IsOwnCache t names asked door.caller log cache
+  pub checks : IsTrueCache t names asked door.caller log cache
 
 -- it goes on to be so
 abbrev pub StaysReady : Table → (names known was asked : List Name) → (before door : Fixed) → (old new : List Entry) → (kept left : List (Option Kept)) → Type 0

@@ -3,7 +3,7 @@
 ghost use Rattle.std.specs.Prelude.{◌<◌, length, IfOk, OnOk};
 ghost use Rattle.hb_call.specs.Calling.{IsArgKinds};
 ghost use Rattle.hb_call.specs.Entering.{IsFramed};
-ghost use Rattle.hb_call.specs.OwnCache.{IsOwnCache};
+ghost use Rattle.hb_call.specs.OwnCache.{IsTrueCache};
 ghost use Rattle.hb_trials.specs.Desks.{FreedIfRefused, HoldSame, IsAloneAt, IsReady, StaysReady};
 
 use crate::declarations::Declared;
@@ -85,7 +85,7 @@ pub fn call<D: Desk, N: Names>(
     ensures framed { IfOk result (IsFramed (D.fixed desk.new).caller CALL (D.front desk.new)) }
     ensures refused { IfOk result (FreedIfRefused (D.fixed desk.new) (D.front desk.new)) }
     ensures alone { IsAloneAt CALL.0 (D.fixed desk.new) (D.front desk.new) }
-    ensures own { OnOk result (IsOwnCache prog.now (N.known names.new) (N.asked names.new) (D.fixed desk.new).caller (D.front desk.new) cache.new) }
+    ensures checks { OnOk result (IsTrueCache prog.now (N.known names.new) (N.asked names.new) (D.fixed desk.new).caller (D.front desk.new) cache.new) }
 {
     enter(
         alloc,

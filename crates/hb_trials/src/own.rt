@@ -50,6 +50,42 @@ fn way<D: Desk, N: Names>(
     Ok(way)
 }
 
+// How it is entered, and once more then.
+fn twice<D: Desk, N: Names>(
+    rt: &impl Abort,
+    alloc: Global,
+    prog: &Program,
+    desk: &mut D,
+    names: &mut N,
+    cache: &mut Cache,
+) -> Result<[By; 2], Fail>
+    requires { IsReady prog.now (N.known names.old) (N.asked names.old) (D.fixed desk.old) (D.front desk.old) cache.old }
+    ensures { OnOk result (IsReady prog.now (N.known names.new) (N.asked names.new) (D.fixed desk.new) (D.front desk.new) cache.new) }
+{
+    let mut share = Share::Off;
+    let first = way(rt, alloc, prog, desk, names, cache, &mut share)?;
+    let second = way(rt, alloc, prog, desk, names, cache, &mut share)?;
+    Ok([first, second])
+}
+
+#[test]
+fn no_check_is_taken_that_the_caller_made_before_its_machine_began(
+    rt: HostRuntime,
+) -> Result<(), Fail> {
+    let alloc = rt.alloc();
+    let prog = read(&rt, alloc, TEXT);
+    let mut tables = PlainTables::new(alloc, VERSIONS_MAX)?;
+    let mut desk = tables.desk(CALLER);
+    let mut names = PlainNames::new(alloc);
+    let mut before = Cache::new(alloc);
+    make_changes(&rt, alloc, &prog, &BOTH, &mut desk, &mut names, &mut before)?;
+    let first = twice(&rt, alloc, &prog, &mut desk, &mut names, &mut before)?;
+    let mut behind = Cache::new(alloc);
+    let second = twice(&rt, alloc, &prog, &mut desk, &mut names, &mut behind)?;
+    assert_eq!(rt; [first, second], [[By::Fresh, By::Own]; 2]);
+    Ok(())
+}
+
 #[test]
 fn a_kept_check_asks_for_the_called_name_alone(rt: HostRuntime) -> Result<(), Fail> {
     let alloc = rt.alloc();

@@ -1,10 +1,10 @@
 use mathlib.Core.List.{IsPrefix}
-use Rattle.std.proofs.Common.{◌≡◌, ◌∙◌, ◌<◌, Some, refl, sym, ap, subst, arith, rules}
-use Rattle.std.specs.Prelude.{Ok, Err, Result, IfErr, IfOk, OnOk}
+use Rattle.std.proofs.Common.{◌≡◌, ◌∙◌, ◌<◌, Some, None, List, refl, sym, ap, subst, arith, rules}
+use Rattle.std.specs.Prelude.{Option, Ok, Err, Result, IfErr, IfOk, OnOk}
 use Rattle.hb_tree.specs.Canon.{bytes_at}
 use Rattle.hb_names.specs.Names.{Differ, place, with_name}
 use Rattle.hb_names.specs.declared.names.TheConstants.{NAMES_MAX}
-use Rattle.hb_names.proofs.NameLemmas.{place-longer}
+use Rattle.hb_names.proofs.NameLemmas.{place-longer, with_name-begins}
 use Rattle.hb_tables.specs.Answers.{Fixed}
 use Rattle.hb_tables.specs.History.{Adds, IsLegal}
 use Rattle.hb_tables.specs.declared.entry.Act.TheVariants.{Hold}
@@ -14,11 +14,13 @@ use Rattle.hb_call.specs.declared.frame.Entered.{Entered}
 use Rattle.hb_call.specs.declared.ruling.Ended.{Ended}
 use Rattle.hb_call.specs.Calling.{Given, IsAskedFor}
 use Rattle.hb_call.specs.Entering.{Asks, Enters, IsEndedWell, IsTold, IsUndone, MarksOnce, MayUndo, entered_of}
-use Rattle.hb_call.specs.Growth.{Grown}
+use Rattle.hb_call.specs.Growth.{EachNew, Grown}
 use Rattle.hb_call.specs.GrowthLaws.{grown_itself, grown_on, prefix_itself, prefix_more, with_rules}
 use Rattle.hb_call.specs.Held.{stands}
-use Rattle.hb_call.specs.OwnCache.{IsOwnCache}
-use Rattle.hb_call.specs.OwnLaws.{own_named}
+use Rattle.hb_call.specs.OwnCache.{IsOwnCache, KeepsChecks}
+use Rattle.hb_call.specs.Rules.{EntersBy}
+use Rattle.hb_cache.specs.declared.kept.Kept.{Kept}
+use Rattle.hb_call.specs.OwnLaws.{keeps_named, keeps_on, own_named}
 use Rattle.hb_call.specs.Sharing.{Collects}
 use Rattle.hb_call.proofs.BegunLemmas.{begun_started}
 use Rattle.hb_call.proofs.DecidingLemmas.{learned}
@@ -26,7 +28,7 @@ use Rattle.hb_call.proofs.EnteredLemmas.{ended_marks, kept_enters, kept_framed, 
 use Rattle.hb_call.proofs.EnteringLemmas.{bytes_found, enters}
 use Rattle.hb_call.proofs.GrowthLemmas.{asked_now}
 use Rattle.hb_call.proofs.NoteLemmas.{as_err}
-use Rattle.hb_call.proofs.OwnGoingLemmas.{goes_own}
+use Rattle.hb_call.proofs.OwnGoingLemmas.{goes_keep, goes_own}
 use Rattle.hb_call.proofs.StartLemmas.{begins, first_fits, first_room, looked_first, none_held, started}
 use Rattle.hb_call.proofs.StepLemmas.{at}
 use Rattle.hb_call.proofs.entering.enter.Goals as goal
@@ -41,7 +43,16 @@ pub returns-in_err-key-clause-grown : goal.returns-in_err-key-clause-grown
 returns-in_err-key-clause-grown g c told = rw c.in_err-key.ensures.unasked (grown_itself _ _ _ _ _)
 
 pub returns-in_err-key-clause-cache : goal.returns-in_err-key-clause-cache
-returns-in_err-key-clause-cache g c told = rw c.in_err-key.ensures.unasked (own_named _ _ _ _ _ _ _ _ c.key.ensures.kept (prefix_itself _) c.requires.cache)
+returns-in_err-key-clause-cache g c = rw c.in_err-key.ensures.unasked (own_named _ _ _ _ _ _ None _ _ c.key.ensures.kept (prefix_itself _) c.requires.cache)
+
+pub returns-in_err-key-clause-own : goal.returns-in_err-key-clause-own
+returns-in_err-key-clause-own g c told = rw c.in_err-key.ensures.unasked (keeps_named _ _ _ _ _ _ _ _ c.key.ensures.kept (prefix_itself _))
+
+pub returns-in_err-held-clause-cache : goal.returns-in_err-held-clause-cache
+returns-in_err-held-clause-cache g c = rw c.lend.ensures.kept (own_named _ _ _ _ _ _ None _ _ c.key.ensures.kept (rw c.in_ok-key.ensures.asked (with_name-begins _ _)) c.requires.cache)
+
+pub returns-in_err-reserve-clause-cache : goal.returns-in_err-reserve-clause-cache
+returns-in_err-reserve-clause-cache g c = rw (c.lend.ensures.kept, c.reserve.ensures.front) (own_named _ _ _ _ _ _ None _ _ c.key.ensures.kept (rw c.in_ok-key.ensures.asked (with_name-begins _ _)) c.requires.cache)
 
 pub returns-in_err-ended-clause-marks : goal.returns-in_err-ended-clause-marks
 returns-in_err-ended-clause-marks g c =
@@ -74,7 +85,7 @@ finish-requires g c =
       args = c.requires.args;
       fresh = (c.new-answers.ensures.items, c.new-compared.ensures.items, refl);
       named = (c.name.result.now, c.in_ok-key.ensures.key);
-      own = rw (c.look-look.ensures.fixed, c.hold-own.ensures.fixed, c.reserve.ensures.fixed) (goes_own given (at (g.N.Names.known c.args.names.now) (g.N.Names.asked c.args.names.now) old) (at known asked look) c.lend.new.self first (rw c.lend.ensures.kept c.requires.cache));
+      own = rw (c.look-look.ensures.fixed, c.hold-own.ensures.fixed, c.reserve.ensures.fixed) (goes_own given None (at (g.N.Names.known c.args.names.now) (g.N.Names.asked c.args.names.now) old) (at known asked look) c.lend.new.self first (rw c.lend.ensures.kept c.requires.cache));
       few = c.key.ensures.few;
       looked = rw (c.look-look.ensures.fixed, c.hold-own.ensures.fixed, c.reserve.ensures.fixed) (looked_first door.caller c.args.q old mid look key own.ty own.changes c.look-look.result adds c.requires.unused seen.0 seen.1);
     }
@@ -133,7 +144,7 @@ returns-in_err-ended-clause-grown g c told =
     (subst (λ (d : g.row.D.Denot). Grown c.args.prog.now door.caller (g.N.Names.known c.finish.new.self.names.now) (g.N.Names.asked c.args.names.now) (g.N.Names.asked c.finish.new.self.names.now) old (g.D.Desk.front d)) desk all)
 
 pub returns-in_err-ended-clause-cache : goal.returns-in_err-ended-clause-cache
-returns-in_err-ended-clause-cache g c told =
+returns-in_err-ended-clause-cache g c =
     let desk : c.finish.new.self.desk.now ≡ c.desk-1.given.0 = search rules in
     let names : c.finish.new.self.names.now ≡ c.names-1.given.0 = search rules in
     let door = g.D.Desk.fixed c.args.desk.now in let old = g.D.Desk.front c.args.desk.now in let mid = g.D.Desk.front c.hold-own.new.self in let look = g.D.Desk.front c.look-look.new.self in
@@ -143,10 +154,41 @@ returns-in_err-ended-clause-cache g c told =
     let seen = rw (c.hold-own.ensures.fixed, c.reserve.ensures.fixed) at c.look-look.ensures.seen in
     let later : IsLegal door.limit look = rw (c.hold-own.ensures.fixed, c.reserve.ensures.fixed) at c.look-look.ensures.legal in
     let fixed : g.D.Desk.fixed c.look-look.new.self ≡ door = c.look-look.ensures.fixed ∙ c.hold-own.ensures.fixed ∙ c.reserve.ensures.fixed in
+    let given : Given = record { t = c.args.prog.now; door = door; q = c.args.q; key = key; own = own; class = c.args.class; args = c.args.args; cache = c.lend.new.self; desk = 0; names = 0; answers = 0 } in
+    let first = begins given (g.N.Names.known c.args.names.now) (g.N.Names.asked c.args.names.now) known asked old mid look (c.args.class.0, c.name.result.now) own
+    c.key.ensures.kept c.key.ensures.few c.key.ensures.differ c.in_ok-key.ensures.key c.in_ok-key.ensures.asked adds legal c.requires.unused seen.0 later in
+    let keeps = goes_keep given (at (g.N.Names.known c.args.names.now) (g.N.Names.asked c.args.names.now) old) (at known asked look) c.lend.new.self first in
     let known2 = g.N.Names.known c.finish.new.self.names.now in let asked2 = g.N.Names.asked c.finish.new.self.names.now in let end = g.D.Desk.front c.finish.new.self.desk.now in let cache = c.lend.new.self in let t = c.args.prog.now in
-    let own2 = subst (λ (d : Fixed). IsOwnCache t known2 asked2 d.caller end cache) fixed c.in_err-ended.ensures.own in
-    subst (λ (m : g.row.N.Denot). IsOwnCache t (g.N.Names.known m) (g.N.Names.asked m) door.caller (g.D.Desk.front c.desk-1.given.0) cache) names
-    (subst (λ (d : g.row.D.Denot). IsOwnCache t known2 asked2 door.caller (g.D.Desk.front d) cache) desk own2)
+    let here = subst (λ (d : Fixed). IsOwnCache t known asked d.caller None look cache) (sym fixed) (keeps.own None (rw c.lend.ensures.kept c.requires.cache)) in
+    let own2 = subst (λ (d : Fixed). IsOwnCache t known2 asked2 d.caller None end cache) fixed (c.in_err-ended.ensures.own None here) in
+    subst (λ (m : g.row.N.Denot). IsOwnCache t (g.N.Names.known m) (g.N.Names.asked m) door.caller None (g.D.Desk.front c.desk-1.given.0) cache) names
+    (subst (λ (d : g.row.D.Denot). IsOwnCache t known2 asked2 door.caller None (g.D.Desk.front d) cache) desk own2)
+
+pub returns-in_err-ended-clause-own : goal.returns-in_err-ended-clause-own
+returns-in_err-ended-clause-own g c told =
+    let desk : c.finish.new.self.desk.now ≡ c.desk-1.given.0 = search rules in
+    let names : c.finish.new.self.names.now ≡ c.names-1.given.0 = search rules in
+    let door = g.D.Desk.fixed c.args.desk.now in let old = g.D.Desk.front c.args.desk.now in let mid = g.D.Desk.front c.hold-own.new.self in let look = g.D.Desk.front c.look-look.new.self in
+    let key = c.in_ok-key.key in let own = c.hold-own.result in let known = g.N.Names.known c.key.new.self in let asked = g.N.Names.asked c.key.new.self in
+    let adds : Adds door.caller old mid (Hold c.args.q key own.ty own.changes) = rw (c.reserve.ensures.fixed, c.reserve.ensures.front) at c.hold-own.ensures.entry in
+    let legal : IsLegal door.limit mid = rw (c.reserve.ensures.fixed) at c.hold-own.ensures.legal in
+    let seen = rw (c.hold-own.ensures.fixed, c.reserve.ensures.fixed) at c.look-look.ensures.seen in
+    let later : IsLegal door.limit look = rw (c.hold-own.ensures.fixed, c.reserve.ensures.fixed) at c.look-look.ensures.legal in
+    let fixed : g.D.Desk.fixed c.look-look.new.self ≡ door = c.look-look.ensures.fixed ∙ c.hold-own.ensures.fixed ∙ c.reserve.ensures.fixed in
+    let given : Given = record { t = c.args.prog.now; door = door; q = c.args.q; key = key; own = own; class = c.args.class; args = c.args.args; cache = c.lend.new.self; desk = 0; names = 0; answers = 0 } in
+    let first = begins given (g.N.Names.known c.args.names.now) (g.N.Names.asked c.args.names.now) known asked old mid look (c.args.class.0, c.name.result.now) own
+    c.key.ensures.kept c.key.ensures.few c.key.ensures.differ c.in_ok-key.ensures.key c.in_ok-key.ensures.asked adds legal c.requires.unused seen.0 later in
+    let keeps = goes_keep given (at (g.N.Names.known c.args.names.now) (g.N.Names.asked c.args.names.now) old) (at known asked look) c.lend.new.self first in
+    let known2 = g.N.Names.known c.finish.new.self.names.now in let asked2 = g.N.Names.asked c.finish.new.self.names.now in let end = g.D.Desk.front c.finish.new.self.desk.now in let cache = c.lend.new.self in let t = c.args.prog.now in
+    let names1 = g.N.Names.known c.args.names.now in let was = g.N.Names.asked c.args.names.now in
+    let since : KeepsChecks t door.caller known known2 asked asked2 look end cache cache = record {
+      own = λ past had. subst (λ (d : Fixed). IsOwnCache t known2 asked2 d.caller past end cache) fixed (c.in_err-ended.ensures.own past (subst (λ (d : Fixed). IsOwnCache t known asked d.caller past look cache) (sym fixed) had));
+      ways = λ past had. subst (λ (d : Fixed). EachNew (EntersBy d.caller past) d.caller look end) fixed (c.finish.ensures.ways past (subst (λ (d : Fixed). IsOwnCache t known asked d.caller (Some past) look cache) (sym fixed) had));
+    } in
+    let all = keeps_on t door.caller names1 known known2 was asked asked2 old look end cache cache cache c.finish.ensures.went.kept keeps since in
+    subst (λ (m : g.row.N.Denot). KeepsChecks t door.caller names1 (g.N.Names.known m) was (g.N.Names.asked m) old (g.D.Desk.front c.desk-1.given.0) c.args.cache.now cache) names
+    (subst (λ (d : g.row.D.Denot). KeepsChecks t door.caller names1 known2 was asked2 old (g.D.Desk.front d) c.args.cache.now cache) desk
+    (subst (λ (x : List (Option Kept)). KeepsChecks t door.caller names1 known2 was asked2 old end x cache) c.lend.ensures.kept all))
 
 pub returns-in_err-ended-clause-others : goal.returns-in_err-ended-clause-others
 returns-in_err-ended-clause-others g c p other =
@@ -286,7 +328,7 @@ returns-clause-others g c p other =
     kept_others door.caller c.args.q end new e well c.keep.result done undone p other ∙ last ∙ first.went.others p other
 
 pub returns-clause-cache : goal.returns-clause-cache
-returns-clause-cache g c told =
+returns-clause-cache g c =
     let desk : c.finish.new.self.desk.now ≡ c.desk-1.given.0 = search rules in
     let names : c.finish.new.self.names.now ≡ c.names-1.given.0 = search rules in
     let door = g.D.Desk.fixed c.args.desk.now in let old = g.D.Desk.front c.args.desk.now in let mid = g.D.Desk.front c.hold-own.new.self in let look = g.D.Desk.front c.look-look.new.self in
@@ -296,6 +338,10 @@ returns-clause-cache g c told =
     let seen = rw (c.hold-own.ensures.fixed, c.reserve.ensures.fixed) at c.look-look.ensures.seen in
     let later : IsLegal door.limit look = rw (c.hold-own.ensures.fixed, c.reserve.ensures.fixed) at c.look-look.ensures.legal in
     let fixed : g.D.Desk.fixed c.look-look.new.self ≡ door = c.look-look.ensures.fixed ∙ c.hold-own.ensures.fixed ∙ c.reserve.ensures.fixed in
+    let given : Given = record { t = c.args.prog.now; door = door; q = c.args.q; key = key; own = own; class = c.args.class; args = c.args.args; cache = c.lend.new.self; desk = 0; names = 0; answers = 0 } in
+    let first = begins given (g.N.Names.known c.args.names.now) (g.N.Names.asked c.args.names.now) known asked old mid look (c.args.class.0, c.name.result.now) own
+    c.key.ensures.kept c.key.ensures.few c.key.ensures.differ c.in_ok-key.ensures.key c.in_ok-key.ensures.asked adds legal c.requires.unused seen.0 later in
+    let keeps = goes_keep given (at (g.N.Names.known c.args.names.now) (g.N.Names.asked c.args.names.now) old) (at known asked look) c.lend.new.self first in
     let e = c.in_ok-ended.ended in let end = g.D.Desk.front c.finish.new.self.desk.now in let new = g.D.Desk.front c.keep.new.desk in
     let ending : g.D.Desk.fixed c.finish.new.self.desk.now ≡ door = c.finish.ensures.fixed ∙ fixed in
     let well : IsEndedWell door.caller c.args.q end e = subst (λ (d : Fixed). IsEndedWell d.caller c.args.q end e) fixed c.in_ok-ended.ensures.ended in
@@ -308,10 +354,50 @@ returns-clause-cache g c told =
     let said : c.finish.new.self.answers.now ≡ c.answers-2-1.given.0 = search rules in
     let answers : c.finish.new.self.answers.now.items ≡ c.deref.result.now = rw (c.deref.ensures.value, sym said) refl in
     let same : call.door ≡ g.D.Desk.fixed c.desk-1.given.0 = subst (λ (d : g.row.D.Denot). call.door ≡ g.D.Desk.fixed d) desk (sym c.finish.ensures.fixed) in
-    let at_end = own_moved call known2 asked2 end (g.D.Desk.front c.desk-1.given.0) c.finish.new.self.answers.now.items c.deref.result.now (Ok e) (ap (λ (d : g.row.D.Denot). g.D.Desk.front d) desk) answers c.in_ok-ended.ensures.own in
-    subst (λ (m : g.row.N.Denot). IsOwnCache t (g.N.Names.known m) (g.N.Names.asked m) door.caller new c.keep.new.cache) names
-    (kept_own door.caller c.args.q end new e well c.keep.result undone told
-    (subst (λ (d : Fixed). OnOk c.keep.result (IsOwnCache t known2 asked2 d.caller new c.keep.new.cache)) fixed (c.keep.ensures.own call known2 asked2 same refl refl at_end)))
+    let cache = c.lend.new.self in
+    let at_end = own_moved call None known2 asked2 end (g.D.Desk.front c.desk-1.given.0) c.finish.new.self.answers.now.items c.deref.result.now (Ok e) (ap (λ (d : g.row.D.Denot). g.D.Desk.front d) desk) answers (c.in_ok-ended.ensures.own None (subst (λ (d : Fixed). IsOwnCache t known asked d.caller None look cache) (sym fixed) (keeps.own None (rw c.lend.ensures.kept c.requires.cache)))) in
+    subst (λ (m : g.row.N.Denot). IsOwnCache t (g.N.Names.known m) (g.N.Names.asked m) door.caller None new c.keep.new.cache) names
+    (subst (λ (d : Fixed). IsOwnCache t known2 asked2 d.caller None new c.keep.new.cache) fixed (c.keep.ensures.checks call known2 asked2 same refl refl at_end))
+
+pub returns-clause-own : goal.returns-clause-own
+returns-clause-own g c told =
+    let desk : c.finish.new.self.desk.now ≡ c.desk-1.given.0 = search rules in
+    let names : c.finish.new.self.names.now ≡ c.names-1.given.0 = search rules in
+    let door = g.D.Desk.fixed c.args.desk.now in let old = g.D.Desk.front c.args.desk.now in let mid = g.D.Desk.front c.hold-own.new.self in let look = g.D.Desk.front c.look-look.new.self in
+    let key = c.in_ok-key.key in let own = c.hold-own.result in let known = g.N.Names.known c.key.new.self in let asked = g.N.Names.asked c.key.new.self in
+    let adds : Adds door.caller old mid (Hold c.args.q key own.ty own.changes) = rw (c.reserve.ensures.fixed, c.reserve.ensures.front) at c.hold-own.ensures.entry in
+    let legal : IsLegal door.limit mid = rw (c.reserve.ensures.fixed) at c.hold-own.ensures.legal in
+    let seen = rw (c.hold-own.ensures.fixed, c.reserve.ensures.fixed) at c.look-look.ensures.seen in
+    let later : IsLegal door.limit look = rw (c.hold-own.ensures.fixed, c.reserve.ensures.fixed) at c.look-look.ensures.legal in
+    let fixed : g.D.Desk.fixed c.look-look.new.self ≡ door = c.look-look.ensures.fixed ∙ c.hold-own.ensures.fixed ∙ c.reserve.ensures.fixed in
+    let given : Given = record { t = c.args.prog.now; door = door; q = c.args.q; key = key; own = own; class = c.args.class; args = c.args.args; cache = c.lend.new.self; desk = 0; names = 0; answers = 0 } in
+    let first = begins given (g.N.Names.known c.args.names.now) (g.N.Names.asked c.args.names.now) known asked old mid look (c.args.class.0, c.name.result.now) own
+    c.key.ensures.kept c.key.ensures.few c.key.ensures.differ c.in_ok-key.ensures.key c.in_ok-key.ensures.asked adds legal c.requires.unused seen.0 later in
+    let keeps = goes_keep given (at (g.N.Names.known c.args.names.now) (g.N.Names.asked c.args.names.now) old) (at known asked look) c.lend.new.self first in
+    let e = c.in_ok-ended.ended in let end = g.D.Desk.front c.finish.new.self.desk.now in let new = g.D.Desk.front c.keep.new.desk in
+    let ending : g.D.Desk.fixed c.finish.new.self.desk.now ≡ door = c.finish.ensures.fixed ∙ fixed in
+    let well : IsEndedWell door.caller c.args.q end e = subst (λ (d : Fixed). IsEndedWell d.caller c.args.q end e) fixed c.in_ok-ended.ensures.ended in
+    let done : IfOk c.keep.result (λ x. (x ≡ entered_of e) × (new ≡ end)) = subst (λ (d : g.row.D.Denot). IfOk c.keep.result (λ x. (x ≡ entered_of e) × (new ≡ g.D.Desk.front d))) (sym desk) c.keep.ensures.done in
+    let undone : IfErr c.keep.result (λ x. (x ≡ fail.NoMemory) × IsUndone door.caller end new e) =
+    subst (λ (d : Fixed). IfErr c.keep.result (λ x. (x ≡ fail.NoMemory) × IsUndone d.caller end new e)) ending
+    (subst (λ (d : g.row.D.Denot). IfErr c.keep.result (λ x. (x ≡ fail.NoMemory) × IsUndone (g.D.Desk.fixed d).caller (g.D.Desk.front d) new e)) (sym desk) c.keep.ensures.undone) in
+    let t = c.args.prog.now in let known2 = g.N.Names.known c.finish.new.self.names.now in let asked2 = g.N.Names.asked c.finish.new.self.names.now in
+    let call : Given = record { t = t; door = g.D.Desk.fixed c.look-look.new.self; q = c.args.q; key = key; own = own; class = c.args.class; args = c.args.args; cache = c.lend.new.self; desk = c.call-1.given; names = c.call-2-1.given; answers = c.answers-1.given.0 } in
+    let said : c.finish.new.self.answers.now ≡ c.answers-2-1.given.0 = search rules in
+    let answers : c.finish.new.self.answers.now.items ≡ c.deref.result.now = rw (c.deref.ensures.value, sym said) refl in
+    let same : call.door ≡ g.D.Desk.fixed c.desk-1.given.0 = subst (λ (d : g.row.D.Denot). call.door ≡ g.D.Desk.fixed d) desk (sym c.finish.ensures.fixed) in
+    let cache = c.lend.new.self in let names1 = g.N.Names.known c.args.names.now in let was = g.N.Names.asked c.args.names.now in
+    let since : KeepsChecks t door.caller known known2 asked asked2 look new cache c.keep.new.cache = record {
+      own = λ past had. kept_own door.caller c.args.q end new e well c.keep.result undone told
+          (subst (λ (d : Fixed). OnOk c.keep.result (IsOwnCache t known2 asked2 d.caller past new c.keep.new.cache)) fixed (c.keep.ensures.own call past known2 asked2 same refl refl
+          (own_moved call past known2 asked2 end (g.D.Desk.front c.desk-1.given.0) c.finish.new.self.answers.now.items c.deref.result.now (Ok e) (ap (λ (d : g.row.D.Denot). g.D.Desk.front d) desk) answers (c.in_ok-ended.ensures.own past (subst (λ (d : Fixed). IsOwnCache t known asked d.caller past look cache) (sym fixed) had)))));
+      ways = λ past had. kept_told door.caller c.args.q end new e well (λ l. EachNew (EntersBy door.caller past) door.caller look l) c.keep.result done undone told
+          (subst (λ (d : Fixed). EachNew (EntersBy d.caller past) d.caller look end) fixed (c.finish.ensures.ways past (subst (λ (d : Fixed). IsOwnCache t known asked d.caller (Some past) look cache) (sym fixed) had)));
+    } in
+    let later_on = kept_told door.caller c.args.q end new e well (λ l. IsPrefix look l) c.keep.result done undone told c.finish.ensures.went.kept in
+    let all = keeps_on t door.caller names1 known known2 was asked asked2 old look new cache cache c.keep.new.cache later_on keeps since in
+    subst (λ (m : g.row.N.Denot). KeepsChecks t door.caller names1 (g.N.Names.known m) was (g.N.Names.asked m) old new c.args.cache.now c.keep.new.cache) names
+    (subst (λ (x : List (Option Kept)). KeepsChecks t door.caller names1 known2 was asked2 old new x c.keep.new.cache) c.lend.ensures.kept all)
 
 pub returns-clause-collects : goal.returns-clause-collects
 returns-clause-collects g c =
@@ -324,13 +410,17 @@ returns-clause-collects g c =
     let seen = rw (c.hold-own.ensures.fixed, c.reserve.ensures.fixed) at c.look-look.ensures.seen in
     let later : IsLegal door.limit look = rw (c.hold-own.ensures.fixed, c.reserve.ensures.fixed) at c.look-look.ensures.legal in
     let fixed : g.D.Desk.fixed c.look-look.new.self ≡ door = c.look-look.ensures.fixed ∙ c.hold-own.ensures.fixed ∙ c.reserve.ensures.fixed in
+    let given : Given = record { t = c.args.prog.now; door = door; q = c.args.q; key = key; own = own; class = c.args.class; args = c.args.args; cache = c.lend.new.self; desk = 0; names = 0; answers = 0 } in
+    let first = begins given (g.N.Names.known c.args.names.now) (g.N.Names.asked c.args.names.now) known asked old mid look (c.args.class.0, c.name.result.now) own
+    c.key.ensures.kept c.key.ensures.few c.key.ensures.differ c.in_ok-key.ensures.key c.in_ok-key.ensures.asked adds legal c.requires.unused seen.0 later in
+    let keeps = goes_keep given (at (g.N.Names.known c.args.names.now) (g.N.Names.asked c.args.names.now) old) (at known asked look) c.lend.new.self first in
     let e = c.in_ok-ended.ended in let end = g.D.Desk.front c.finish.new.self.desk.now in let new = g.D.Desk.front c.keep.new.desk in
     let t = c.args.prog.now in let known2 = g.N.Names.known c.finish.new.self.names.now in let asked2 = g.N.Names.asked c.finish.new.self.names.now in
     let call : Given = record { t = t; door = g.D.Desk.fixed c.look-look.new.self; q = c.args.q; key = key; own = own; class = c.args.class; args = c.args.args; cache = c.lend.new.self; desk = c.call-1.given; names = c.call-2-1.given; answers = c.answers-1.given.0 } in
     let said : c.finish.new.self.answers.now ≡ c.answers-2-1.given.0 = search rules in
     let answers : c.finish.new.self.answers.now.items ≡ c.deref.result.now = rw (c.deref.ensures.value, sym said) refl in
     let same : call.door ≡ g.D.Desk.fixed c.desk-1.given.0 = subst (λ (d : g.row.D.Denot). call.door ≡ g.D.Desk.fixed d) desk (sym c.finish.ensures.fixed) in
-    let at_end = own_moved call known2 asked2 end (g.D.Desk.front c.desk-1.given.0) c.finish.new.self.answers.now.items c.deref.result.now (Ok e) (ap (λ (d : g.row.D.Denot). g.D.Desk.front d) desk) answers c.in_ok-ended.ensures.own in
+    let at_end = own_moved call None known2 asked2 end (g.D.Desk.front c.desk-1.given.0) c.finish.new.self.answers.now.items c.deref.result.now (Ok e) (ap (λ (d : g.row.D.Denot). g.D.Desk.front d) desk) answers (c.in_ok-ended.ensures.own None (subst (λ (d : Fixed). IsOwnCache t known asked d.caller None look c.lend.new.self) (sym fixed) (keeps.own None (rw c.lend.ensures.kept c.requires.cache)))) in
     subst (λ (m : g.row.N.Denot). Collects t (g.N.Names.known m) (stands door.caller c.args.q.0 new) c.keep.new.cache c.args.share.now c.keep.new.share c.keep.result) names
     (subst (λ (d : Fixed). Collects t known2 (stands d.caller c.args.q.0 new) c.keep.new.cache c.args.share.now c.keep.new.share c.keep.result) fixed (c.keep.ensures.collects call known2 asked2 same refl refl at_end))
 

@@ -1,8 +1,6 @@
 use Rattle.std.proofs.Common.{◌∙◌, ap, ◌++◌}
 use Rattle.hb_tables.specs.Frames.{acts}
-use Rattle.hb_call.specs.GrowthLaws.{prefix_itself}
-use Rattle.hb_call.specs.OwnLaws.{own_stays}
-use Rattle.hb_call.proofs.OwnGoingLemmas.{frees_leave}
+use Rattle.hb_call.proofs.OwnGoingLemmas.{frees_keep}
 use Rattle.hb_call.specs.Held.{frees}
 use Rattle.hb_call.proofs.HeldLemmas.{all_stand, none_stand}
 use Rattle.hb_call.proofs.GrowthLemmas.{grown_frees, others_frees}
@@ -29,6 +27,6 @@ returns-clause-grown g c t names asked called =
     grown_frees t who names asked c.args.frame.q c.args.frame.held.items log (g.D.Desk.front c.free_keys.new.desk) called c.free_keys.ensures.kept (c.free_keys.ensures.acts ∙ ap (λ ks. acts who log ++ frees c.args.frame.q ks) c.deref.ensures.value)
 
 pub returns-clause-own : goal.returns-clause-own
-returns-clause-own g c t names asked cache own =
+returns-clause-own g c t names asked cache =
     let who = (g.D.Desk.fixed c.args.desk.now).caller in let log = g.D.Desk.front c.args.desk.now in
-    own_stays t names names asked asked who log (g.D.Desk.front c.free_keys.new.desk) cache (prefix_itself names) (prefix_itself asked) own (frees c.args.frame.q c.args.frame.held.items) c.free_keys.ensures.kept (c.free_keys.ensures.acts ∙ ap (λ ks. acts who log ++ frees c.args.frame.q ks) c.deref.ensures.value) (frees_leave c.args.frame.q c.args.frame.held.items)
+    frees_keep t who names asked c.args.frame.q c.args.frame.held.items log (g.D.Desk.front c.free_keys.new.desk) cache c.free_keys.ensures.kept (c.free_keys.ensures.acts ∙ ap (λ ks. acts who log ++ frees c.args.frame.q ks) c.deref.ensures.value)

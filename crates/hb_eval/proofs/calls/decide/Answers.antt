@@ -17,7 +17,9 @@ use Rattle.hb_call.specs.declared.frame.Entered.{Entered}
 use Rattle.hb_call.specs.Entering.{Asks, Enters, IsFramed, IsTold, IsFullAtOnce, IsFullLater, IsRefused}
 use Rattle.hb_call.specs.Growth.{Grown}
 use Rattle.hb_call.specs.GrowthLaws.{grown_itself, grown_on}
-use Rattle.hb_call.specs.OwnCache.{IsOwnCache}
+use Rattle.hb_call.specs.OwnCache.{KeepsChecks}
+use Rattle.hb_call.specs.GrowthLaws.{prefix_itself}
+use Rattle.hb_call.specs.OwnLaws.{keeps_on}
 use Rattle.hb_eval.specs.declared.value.Value.TheVariants as value
 use Rattle.hb_eval.specs.declared.framed.Framed.{Framed}
 use Rattle.hb_eval.specs.declared.state.State.{State}
@@ -252,27 +254,29 @@ returns-in-Err-NoMemory-clause-holding g c =
 pub returns-in-Ok-Frame-clause-own : goal.returns-in-Ok-Frame-clause-own
 returns-in-Ok-Frame-clause-own g c =
     on_ok c.start_body.result _
-    (subst (IsOwnCache c.args.prog.now (g.N.Names.known c.enter.new.names) (g.N.Names.asked c.enter.new.names) (g.D.Desk.fixed c.args.desk.now).caller (g.D.Desk.front c.enter.new.desk))
-    (sym (c.start_body.ensures.steady.cache ∙ ap (λ (s : State). s.cache) c.count.ensures)) (c.in-Ok-Frame.ensures.cache tt))
+    (subst (KeepsChecks c.args.prog.now (g.D.Desk.fixed c.args.desk.now).caller (g.N.Names.known c.args.names.now) (g.N.Names.known c.enter.new.names) (g.N.Names.asked c.args.names.now) (g.N.Names.asked c.enter.new.names) (g.D.Desk.front c.args.desk.now) (g.D.Desk.front c.enter.new.desk) c.args.state.now.cache)
+    (sym (c.start_body.ensures.steady.cache ∙ ap (λ (s : State). s.cache) c.count.ensures)) (c.in-Ok-Frame.ensures.own tt))
 
 pub returns-in-Some-clause-own : goal.returns-in-Some-clause-own
 returns-in-Some-clause-own g c =
-    subst (IsOwnCache c.args.prog.now (g.N.Names.known c.enter.new.names) (g.N.Names.asked c.enter.new.names) (g.D.Desk.fixed c.args.desk.now).caller (g.D.Desk.front c.enter.new.desk))
-    (sym (ap (λ (s : State). s.cache) c.refused.ensures.state)) (c.in-Ok-Refused.ensures.cache tt)
+    subst (KeepsChecks c.args.prog.now (g.D.Desk.fixed c.args.desk.now).caller (g.N.Names.known c.args.names.now) (g.N.Names.known c.enter.new.names) (g.N.Names.asked c.args.names.now) (g.N.Names.asked c.enter.new.names) (g.D.Desk.front c.args.desk.now) (g.D.Desk.front c.enter.new.desk) c.args.state.now.cache)
+    (sym (ap (λ (s : State). s.cache) c.refused.ensures.state)) (c.in-Ok-Refused.ensures.own tt)
 
 pub returns-then-branch-clause-own : goal.returns-then-branch-clause-own
 returns-then-branch-clause-own g c =
     let told = subst (λ (x : CallFail). IsTold {X = Entered} (Err x)) (sym c.in-Err-Full.field-0-is) tt in
-    subst (IsOwnCache c.args.prog.now (g.N.Names.known c.is_placed.new.names) (g.N.Names.asked c.is_placed.new.names) (g.D.Desk.fixed c.args.desk.now).caller (g.D.Desk.front c.enter.new.desk))
+    subst (KeepsChecks c.args.prog.now (g.D.Desk.fixed c.args.desk.now).caller (g.N.Names.known c.args.names.now) (g.N.Names.known c.is_placed.new.names) (g.N.Names.asked c.args.names.now) (g.N.Names.asked c.is_placed.new.names) (g.D.Desk.front c.args.desk.now) (g.D.Desk.front c.enter.new.desk) c.args.state.now.cache)
     (sym (ap (λ (s : State). s.cache) c.full.ensures.state))
-    (keeps_again c.in_ok-is_placed-in-Err-Full.field-0 c.args.prog.now _ _ _ _ _ (c.args.class.0, bytes_at c.args.prog.now.names c.args.name.0) _ _ c.is_placed.ensures.named c.in_ok-is_placed-in-Err-Full.ensures.asked (c.in-Err-Full.ensures.cache told))
+    (keeps_on c.args.prog.now _ _ _ _ _ _ _ _ _ _ _ _ _ (prefix_itself _) (c.in-Err-Full.ensures.own told)
+    (keeps_again c.in_ok-is_placed-in-Err-Full.field-0 c.args.prog.now _ _ _ _ _ (c.args.class.0, bytes_at c.args.prog.now.names c.args.name.0) _ _ c.is_placed.ensures.named c.in_ok-is_placed-in-Err-Full.ensures.asked))
 
 pub returns-else-branch-clause-own : goal.returns-else-branch-clause-own
 returns-else-branch-clause-own g c =
     let told = subst (λ (x : CallFail). IsTold {X = Entered} (Err x)) (sym c.in-Err-Full.field-0-is) tt in
-    subst (IsOwnCache c.args.prog.now (g.N.Names.known c.is_placed.new.names) (g.N.Names.asked c.is_placed.new.names) (g.D.Desk.fixed c.args.desk.now).caller (g.D.Desk.front c.enter.new.desk))
+    subst (KeepsChecks c.args.prog.now (g.D.Desk.fixed c.args.desk.now).caller (g.N.Names.known c.args.names.now) (g.N.Names.known c.is_placed.new.names) (g.N.Names.asked c.args.names.now) (g.N.Names.asked c.is_placed.new.names) (g.D.Desk.front c.args.desk.now) (g.D.Desk.front c.enter.new.desk) c.args.state.now.cache)
     (sym (ap (λ (s : State). s.cache) c.refuse.ensures.state))
-    (keeps_again c.in_ok-is_placed-in-Err-Full.field-0 c.args.prog.now _ _ _ _ _ (c.args.class.0, bytes_at c.args.prog.now.names c.args.name.0) _ _ c.is_placed.ensures.named c.in_ok-is_placed-in-Err-Full.ensures.asked (c.in-Err-Full.ensures.cache told))
+    (keeps_on c.args.prog.now _ _ _ _ _ _ _ _ _ _ _ _ _ (prefix_itself _) (c.in-Err-Full.ensures.own told)
+    (keeps_again c.in_ok-is_placed-in-Err-Full.field-0 c.args.prog.now _ _ _ _ _ (c.args.class.0, bytes_at c.args.prog.now.names c.args.name.0) _ _ c.is_placed.ensures.named c.in_ok-is_placed-in-Err-Full.ensures.asked))
 
 pub returns-in-Ok-Frame-clause-goes : goal.returns-in-Ok-Frame-clause-goes
 returns-in-Ok-Frame-clause-goes g c =
@@ -299,7 +303,7 @@ returns-in-Ok-Frame-clause-shares g c =
     let was = g.D.Desk.front c.args.desk.now in
     let e = subst (λ (x : Entered). Enters asks known was now (Ok x)) c.in-Ok-Frame.field-0-is c.in-Ok-Frame.ensures.entered in
     let took = subst (λ (x : Entered). Collects t known (stands door.caller q.0 now) c.enter.new.cache c.args.share.now c.enter.new.share (Ok x)) c.in-Ok-Frame.field-0-is c.in-Ok-Frame.ensures.collects in
-    on_ok c.start_body.result _ (shares_entered asks known (g.N.Names.asked c.enter.new.names) was now c.enter.new.cache c.in-Ok-Frame.frame c.in-Ok-Frame.way c.args.share.now c.enter.new.share e.1 (c.in-Ok-Frame.ensures.cache tt) took)
+    on_ok c.start_body.result _ (shares_entered asks known (g.N.Names.asked c.enter.new.names) was now c.enter.new.cache c.in-Ok-Frame.frame c.in-Ok-Frame.way c.args.share.now c.enter.new.share e.1 c.enter.ensures.cache took)
 
 pub returns-in-Some-clause-shares : goal.returns-in-Some-clause-shares
 returns-in-Some-clause-shares g c =

@@ -5,10 +5,11 @@ use Rattle.hb_tree.specs.{Tree.TCall, Nodes.numbers_of}
 use Rattle.hb_tree.specs.TreeAt.{tree_at, forest_at, IsExprAt}
 use Rattle.hb_call.specs.GrowthLaws.{grown_itself}
 use Rattle.hb_eval.specs.declared.state.Hand.{Hand}
+use Rattle.hb_eval.specs.declared.state.State.{State}
 use Rattle.hb_eval.specs.Entries.{calling}
 use Rattle.hb_eval.specs.Turns.{Goes, Reads, with_operands, after}
 use Rattle.hb_eval.proofs.ArgumentLemmas.{argument_starts, arguments_there, argument_count, argument_expr, turned_before}
-use Rattle.hb_eval.proofs.{GoesLemmas.argument_goes, TurnLemmas.reads_from, ApplyLemmas.on_ok, GatheringLemmas.shares_itself}
+use Rattle.hb_eval.proofs.{GoesLemmas.argument_goes, TurnLemmas.reads_from, ApplyLemmas.nothing_kept, ApplyLemmas.on_ok, GatheringLemmas.shares_itself}
 use Rattle.hb_eval.proofs.calls.next_argument.Goals as goal
 
 pub call-requires-clause-short : goal.call-requires-clause-short
@@ -40,6 +41,9 @@ returns-then-next-ids-clause-turned g c =
 
 pub returns-then-next-ids-clause-grown : goal.returns-then-next-ids-clause-grown
 returns-then-next-ids-clause-grown g c = on_ok c.take.result _ (grown_itself _ _ _ _ _)
+
+pub returns-then-next-ids-clause-own : goal.returns-then-next-ids-clause-own
+returns-then-next-ids-clause-own g c = nothing_kept _ _ _ _ _ _ _ c.take.result (ap (λ (s : State). s.cache) c.first.ensures.state)
 
 pub returns-else-next-ids-clause-turned : goal.returns-else-next-ids-clause-turned
 returns-else-next-ids-clause-turned g c =

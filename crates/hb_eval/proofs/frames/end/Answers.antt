@@ -23,7 +23,7 @@ returns-clause-holding g c =
     holding_left _ _ (frames_of c.pop.new.self.items) c.in-Some.field-0.frame _ _ top c.leave_lent.ensures.none c.leave_lent.ensures.others c.leave_lent.ensures.kept
 
 pub returns-clause-own : goal.returns-clause-own
-returns-clause-own g c t names asked own = rw c.leave_lent.ensures.cache (c.leave_lent.ensures.own t names asked c.args.state.now.cache own)
+returns-clause-own g c t names asked = rw c.leave_lent.ensures.cache (c.leave_lent.ensures.own t names asked c.args.state.now.cache)
 
 pub returns-clause-grown : goal.returns-clause-grown
 returns-clause-grown g c t names asked =

@@ -4,6 +4,7 @@ use Rattle.hb_tree.specs.TreeAt.{tree_at}
 use Rattle.hb_tree.proofs.Trees.{id_of-tree_at}
 use Rattle.hb_eval.specs.declared.state.Move.{Move}
 use Rattle.hb_call.specs.GrowthLaws.{grown_itself}
+use Rattle.hb_call.specs.OwnLaws.{keeps_itself}
 use Rattle.hb_eval.proofs.NamedLemmas.{keeps_from, unnamed_on, there}
 use Rattle.hb_eval.proofs.named.method_computed.Goals as goal
 
@@ -14,6 +15,9 @@ returns-in-Err-clause-acts g c =
 
 pub returns-in-Err-clause-grown : goal.returns-in-Err-clause-grown
 returns-in-Err-clause-grown g c t = grown_itself t _ _ _ _
+
+pub returns-in-Err-clause-own : goal.returns-in-Err-clause-own
+returns-in-Err-clause-own g c t = rw c.halt.ensures.state (keeps_itself t _ _ _ _ _)
 
 pub returns-in-Def-Computed-default-clause-keeps : goal.returns-in-Def-Computed-default-clause-keeps
 returns-in-Def-Computed-default-clause-keeps g c t = IfOk-weaker c.define.result _ _ (λ (m : Move) k. keeps_from t c.args.state.now _ _ m refl refl refl k) (c.define.ensures.keeps t)

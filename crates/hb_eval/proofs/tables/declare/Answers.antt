@@ -57,10 +57,10 @@ pub returns-else-asks-clause-own : goal.returns-else-asks-clause-own
 returns-else-asks-clause-own g c = stays_retyped _ _ _ c.args.key c.args.site _ _ c.in-Done.ensures.entry c.drop_type.ensures.each
 
 pub returns-in-Busy-clause-own : goal.returns-in-Busy-clause-own
-returns-in-Busy-clause-own g c = stays_left _ _ _ (Busy c.args.key c.in-Busy.pins) _ c.in-Busy.ensures.entry refl
+returns-in-Busy-clause-own g c = stays_left _ _ _ (Busy c.args.key c.in-Busy.pins) _ c.in-Busy.ensures.entry refl (λ past before. tt)
 
 pub returns-in-Busy-2-clause-own : goal.returns-in-Busy-2-clause-own
-returns-in-Busy-2-clause-own g c = stays_left _ _ _ (Busy c.args.key c.in-Busy-2.pins) _ c.in-Busy-2.ensures.entry refl
+returns-in-Busy-2-clause-own g c = stays_left _ _ _ (Busy c.args.key c.in-Busy-2.pins) _ c.in-Busy-2.ensures.entry refl (λ past before. tt)
 
 pub returns-in-Worn-clause-own : goal.returns-in-Worn-clause-own
-returns-in-Worn-clause-own g c = stays_left _ _ _ (WornType c.args.key) _ c.in-Worn.ensures.entry refl
+returns-in-Worn-clause-own g c = stays_left _ _ _ (WornType c.args.key) _ c.in-Worn.ensures.entry refl (λ past before. tt)

@@ -27,4 +27,4 @@ pub returns-in-Done-clause-own : goal.returns-in-Done-clause-own
 returns-in-Done-clause-own g c = stays_defined _ _ _ c.args.key c.args.site _ _ c.in-Done.ensures.entry c.drop_def.ensures.each
 
 pub returns-in-Worn-clause-own : goal.returns-in-Worn-clause-own
-returns-in-Worn-clause-own g c = stays_left _ _ _ (WornDef c.args.key) _ c.in-Worn.ensures.entry refl
+returns-in-Worn-clause-own g c = stays_left _ _ _ (WornDef c.args.key) _ c.in-Worn.ensures.entry refl (λ past before. tt)

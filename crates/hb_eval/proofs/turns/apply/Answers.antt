@@ -1,7 +1,7 @@
 use Rattle.std.proofs.Common.{refl, ◌+◌, ℕ, sym, subst}
 use Rattle.hb_eval.specs.Holding.{Holding, frames_of}
 use Rattle.hb_eval.proofs.HoldingLemmas.{holding_apart}
-use Rattle.hb_eval.proofs.ApplyLemmas.{on_ok, quiet_turned}
+use Rattle.hb_eval.proofs.ApplyLemmas.{nothing_kept, on_ok, quiet_turned}
 use Rattle.hb_eval.proofs.GatheringLemmas.{shares_quiet, shares_turned}
 use Rattle.hb_eval.proofs.turns.apply.Goals as goal
 
@@ -38,7 +38,7 @@ returns-in-Items-clause-turned g c =
     rw c.in-Items.is (quiet_turned c.args.prog.now _ _ _ _ c.args.frames.now.items c.args.state.now c.items.new.state c.items.result _ _ c.take-in-Items.result c.take-in-Items.ensures.took (refl, refl) c.items.ensures.moves c.items.ensures.plain c.items.ensures.light c.items.ensures.steady (c.items.ensures.known c.requires.ready.known.state))
 
 pub returns-in-Frame-clause-own : goal.returns-in-Frame-clause-own
-returns-in-Frame-clause-own g c = on_ok c.take-in-Frame.result _ (c.end_body.ensures.own c.args.prog.now _ _ c.requires.own)
+returns-in-Frame-clause-own g c = on_ok c.take-in-Frame.result _ (c.end_body.ensures.own c.args.prog.now _ _)
 
 pub returns-in-Frame-clause-shares : goal.returns-in-Frame-clause-shares
 returns-in-Frame-clause-shares g c =
@@ -52,3 +52,27 @@ returns-in-Method-clause-holding g c =
 pub returns-in-Method-clause-shares : goal.returns-in-Method-clause-shares
 returns-in-Method-clause-shares g c =
     shares_turned c.args.prog.now _ _ _ _ _ _ _ _ _ c.args.state.now _ c.apply_rarely.new.state _ _ _ c.apply_rarely.result _ c.apply_rarely.ensures.still.calls.fresh (c.apply_rarely.ensures.turned c.args.frames.now.items)
+
+pub returns-in_ok-assign-in-Assign-clause-own : goal.returns-in_ok-assign-in-Assign-clause-own
+returns-in_ok-assign-in-Assign-clause-own g c = nothing_kept c.args.prog.now _ _ _ _ _ _ c.take.result c.assign.ensures.steady.cache
+
+pub returns-in-Not-clause-own : goal.returns-in-Not-clause-own
+returns-in-Not-clause-own g c = nothing_kept c.args.prog.now _ _ _ _ _ _ c.take-in-Not.result c.not.ensures.steady.cache
+
+pub returns-in_ok-left-in-Left-clause-own : goal.returns-in_ok-left-in-Left-clause-own
+returns-in_ok-left-in-Left-clause-own g c = nothing_kept c.args.prog.now _ _ _ _ _ _ c.take-in-Left.result c.left.ensures.steady.cache
+
+pub returns-in_ok-right-in-Right-clause-own : goal.returns-in_ok-right-in-Right-clause-own
+returns-in_ok-right-in-Right-clause-own g c = nothing_kept c.args.prog.now _ _ _ _ _ _ c.take-in-Right.result c.right.ensures.steady.cache
+
+pub returns-in-Choose-clause-own : goal.returns-in-Choose-clause-own
+returns-in-Choose-clause-own g c = nothing_kept c.args.prog.now _ _ _ _ _ _ c.take-in-Choose.result c.choose.ensures.steady.cache
+
+pub returns-in-Test-clause-own : goal.returns-in-Test-clause-own
+returns-in-Test-clause-own g c = nothing_kept c.args.prog.now _ _ _ _ _ _ c.take-in-Test.result c.test.ensures.steady.cache
+
+pub returns-in-Turn-clause-own : goal.returns-in-Turn-clause-own
+returns-in-Turn-clause-own g c = nothing_kept c.args.prog.now _ _ _ _ _ _ c.take-in-Turn.result c.turn.ensures.steady.cache
+
+pub returns-in-Items-clause-own : goal.returns-in-Items-clause-own
+returns-in-Items-clause-own g c = nothing_kept c.args.prog.now _ _ _ _ _ _ c.take-in-Items.result c.items.ensures.steady.cache

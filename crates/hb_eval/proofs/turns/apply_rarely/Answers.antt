@@ -1,5 +1,5 @@
 use Rattle.std.proofs.Common.{refl}
-use Rattle.hb_eval.proofs.ApplyLemmas.{named_turned, on_ok, quiet_turned}
+use Rattle.hb_eval.proofs.ApplyLemmas.{named_turned, nothing_kept, on_ok, quiet_turned}
 use Rattle.hb_eval.proofs.turns.apply_rarely.Goals as goal
 
 pub returns-in_ok-method-in-Method-clause-turned : goal.returns-in_ok-method-in-Method-clause-turned
@@ -20,3 +20,9 @@ pub returns-in_ok-to_text-in-ToStr-clause-turned : goal.returns-in_ok-to_text-in
 returns-in_ok-to_text-in-ToStr-clause-turned g c frames =
     let ok = c.in_ok-to_text-in-ToStr in
     rw c.in-ToStr.is (quiet_turned c.args.prog.now _ _ _ _ frames c.args.state.now c.to_text.new.state ok.field-0 _ _ c.take-in-ToStr.result c.take-in-ToStr.ensures.took (refl, refl) ok.ensures.moves ok.ensures.plain ok.ensures.light c.to_text.ensures.steady (ok.ensures.known c.requires.known))
+
+pub returns-in_ok-print_value-in-Print-clause-own : goal.returns-in_ok-print_value-in-Print-clause-own
+returns-in_ok-print_value-in-Print-clause-own g c = nothing_kept c.args.prog.now _ _ _ _ _ _ c.take-in-Print.result c.print_value.ensures.steady.cache
+
+pub returns-in_ok-to_text-in-ToStr-clause-own : goal.returns-in_ok-to_text-in-ToStr-clause-own
+returns-in_ok-to_text-in-ToStr-clause-own g c = nothing_kept c.args.prog.now _ _ _ _ _ _ c.take-in-ToStr.result c.to_text.ensures.steady.cache

@@ -1,6 +1,6 @@
-use Rattle.std.proofs.Common.{◌+◌, sym, subst}
+use Rattle.std.proofs.Common.{None, ◌+◌, sym, subst}
 use Rattle.hb_tables.specs.Answers.{Fixed}
-use Rattle.hb_call.specs.OwnCache.{IsOwnCache}
+use Rattle.hb_call.specs.OwnCache.{IsTrueCache}
 use Rattle.hb_eval.specs.Holding.{Holding, frames_of}
 use Rattle.hb_eval.specs.Machines.{Turns}
 use Rattle.hb_eval.specs.declared.machine.Turn.{Turn}
@@ -17,13 +17,13 @@ loop-share-preserved g c =
     let came = c.in_ok-advance.ensures in
     let turned = subst (λ (turn : Turn). Turns turn c.loop-share.machine c.advance.new.self) c.in-More.is came.turn in
     let holding = subst (λ (door : Fixed). Holding door.caller (c.advance.new.self.state.made + 1) (frames_of c.advance.new.self.frames.items) (g.D.Desk.front c.advance.new.desk)) (sym c.advance.ensures.stays.fixed) came.holding in
-    let own = subst (λ (door : Fixed). IsOwnCache c.args.prog.now (g.N.Names.known c.advance.new.names) (g.N.Names.asked c.advance.new.names) door.caller (g.D.Desk.front c.advance.new.desk) c.advance.new.self.state.cache) (sym c.advance.ensures.stays.fixed) came.own in
-    (came.fine, turned.0, holding, c.advance.ensures.stays.few inv.3, own, went_turn _ _ _ _ _ _ _ _ _ _ _ _ _ _ _ _ _ inv.5 came.stands c.advance.ensures.stays came.grown c.advance.ensures.caller c.advance.ensures.keeps, g.N.Names.alike_on _ _ _ inv.6 c.advance.ensures.alike)
+    let cache = subst (λ (door : Fixed). IsTrueCache c.args.prog.now (g.N.Names.known c.advance.new.names) (g.N.Names.asked c.advance.new.names) door.caller (g.D.Desk.front c.advance.new.desk) c.advance.new.self.state.cache) (sym c.advance.ensures.stays.fixed) (came.own.own None inv.4) in
+    (came.fine, turned.0, holding, c.advance.ensures.stays.few inv.3, cache, went_turn _ _ _ _ _ _ _ _ _ _ _ _ _ _ _ _ _ inv.5 came.stands c.advance.ensures.stays came.grown came.own c.advance.ensures.caller c.advance.ensures.keeps, g.N.Names.alike_on _ _ _ inv.6 c.advance.ensures.alike)
 
 pub returns-in-Ended-clause-went : goal.returns-in-Ended-clause-went
 returns-in-Ended-clause-went g c =
     let came = c.in_ok-advance.ensures in
-    went_turn _ _ _ _ _ _ _ _ _ _ _ _ _ _ _ _ _ c.loop-share.invariant.5 came.stands c.advance.ensures.stays came.grown c.advance.ensures.caller c.advance.ensures.keeps
+    went_turn _ _ _ _ _ _ _ _ _ _ _ _ _ _ _ _ _ c.loop-share.invariant.5 came.stands c.advance.ensures.stays came.grown came.own c.advance.ensures.caller c.advance.ensures.keeps
 
 pub returns-in_err-advance-clause-stays : goal.returns-in_err-advance-clause-stays
 returns-in_err-advance-clause-stays g c = stays_on _ _ _ _ _ _ _ _ _ c.loop-share.invariant.5.stays c.advance.ensures.stays

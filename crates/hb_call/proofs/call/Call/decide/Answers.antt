@@ -1,4 +1,4 @@
-use Rattle.std.proofs.Common.{refl, ◌≡◌, ◌++◌, Ok, Some, sym, ap, ◌∙◌, subst}
+use Rattle.std.proofs.Common.{refl, ◌≡◌, ◌++◌, Ok, Some, None, sym, ap, ◌∙◌, subst}
 use Rattle.hb_types.specs.declared.ids.KeyId.{KeyId}
 use Rattle.hb_names.specs.Names.{place}
 use Rattle.hb_names.proofs.NameLemmas.{place-longer}
@@ -18,13 +18,13 @@ use Rattle.hb_tables.specs.declared.entry.Verdict.{Verdict}
 use Rattle.hb_call.specs.declared.frame.CallFail.TheVariants as fail
 use Rattle.hb_call.specs.Deciding.{Decided, IsOwnBehind, IsRuled, site_by, verdict_by}
 use Rattle.hb_call.specs.OwnCache.{IsOwnCache}
-use Rattle.hb_call.proofs.OwnGoingLemmas.{goes_own}
-use Rattle.hb_call.proofs.RuledLemmas.{own_stopped, ruled_own, ruled_row, ruled_way}
+use Rattle.hb_call.proofs.OwnGoingLemmas.{goes_own, goes_ways}
+use Rattle.hb_call.proofs.RuledLemmas.{own_stopped, ruled_own, ruled_row, ruled_unshared, ruled_ways}
 use Rattle.hb_call.specs.Entering.{IsFullFor, IsRightlyFor}
 use Rattle.hb_call.proofs.FullLemmas.{if_err}
 use Rattle.hb_call.proofs.MarkLemmas.{asks_by}
 use Rattle.hb_tables.specs.declared.entry.Act.TheVariants.{Call}
-use Rattle.hb_call.proofs.DecideLemmas.{on_err, not_ok, own_below, call_holds, call_whole, call_decided, decided_went, decided_grew}
+use Rattle.hb_call.proofs.DecideLemmas.{on_err, not_ok, own_below, call_holds, call_whole, call_decided, decided_went, decided_grew, decided_ways}
 use Rattle.hb_call.proofs.call.Call.decide.Goals as goal
 
 pub loop-ruling-init : goal.loop-ruling-init
@@ -129,7 +129,7 @@ loop-ruling-preserved g c =
       compared = c.retreat.ensures.fresh.1;
       refused = c.retreat.ensures.fresh.2;
       few = on.goes.went.few i.few;
-      own = subst (λ (h : Given). IsOwnCache h.t known (g.N.Names.asked o.names.now) h.door.caller (g.D.Desk.front o.desk.now) h.cache) on.same (goes_own (given_of g.D.Desk.fixed w) was end w.cache.now on.goes i.own);
+      own = subst (λ (h : Given). IsOwnCache h.t known (g.N.Names.asked o.names.now) h.door.caller None (g.D.Desk.front o.desk.now) h.cache) on.same (goes_own (given_of g.D.Desk.fixed w) None was end w.cache.now on.goes i.own);
       named = (i.named.0, subst (λ (h : Given). place known (h.class.0, i.named.0) ≡ Some h.key.0) on.same (place-longer _ known (w.class.0, i.named.0) w.key.0 on.goes.went.named i.named.1));
       looked = looked_again (given_of g.D.Desk.fixed w) given was mid new c.loop-ruling.look c.in-Err.newer c.ruling.ensures.alike c.ruling.ensures.live d.0 legal door same (given_of g.D.Desk.fixed o) end c.retreat.ensures.alike may d.1 c.retreat.ensures.freed.0 c.retreat.ensures.freed.2;
       unfit = unfit_again (given_of g.D.Desk.fixed w) given was mid new c.ruling.ensures.alike s.held.now.items c.ruling.ensures.unfit d.0 door same end c.retreat.ensures.freed (given_of g.D.Desk.fixed c.args.self.now) (moment_of g.D.Desk.front g.N.Names.known g.N.Names.asked c.args.self.now) i.alike.same i.unfit;
@@ -155,7 +155,7 @@ loop-ruling-preserved-in-Err g c =
       compared = c.retreat.ensures.fresh.1;
       refused = c.retreat.ensures.fresh.2;
       few = on.goes.went.few i.few;
-      own = subst (λ (h : Given). IsOwnCache h.t known (g.N.Names.asked o.names.now) h.door.caller (g.D.Desk.front o.desk.now) h.cache) on.same (goes_own (given_of g.D.Desk.fixed w) was end w.cache.now on.goes i.own);
+      own = subst (λ (h : Given). IsOwnCache h.t known (g.N.Names.asked o.names.now) h.door.caller None (g.D.Desk.front o.desk.now) h.cache) on.same (goes_own (given_of g.D.Desk.fixed w) None was end w.cache.now on.goes i.own);
       named = (i.named.0, subst (λ (h : Given). place known (h.class.0, i.named.0) ≡ Some h.key.0) on.same (place-longer _ known (w.class.0, i.named.0) w.key.0 on.goes.went.named i.named.1));
       looked = looked_again (given_of g.D.Desk.fixed w) given was mid new c.loop-ruling.look c.in-Err.newer c.ruling.ensures.alike c.ruling.ensures.live d.0 legal door same (given_of g.D.Desk.fixed o) end c.retreat.ensures.alike may d.1 c.retreat.ensures.freed.0 c.retreat.ensures.freed.2;
       unfit = unfit_again (given_of g.D.Desk.fixed w) given was mid new c.ruling.ensures.alike s.held.now.items c.ruling.ensures.unfit d.0 door same end c.retreat.ensures.freed (given_of g.D.Desk.fixed c.args.self.now) (moment_of g.D.Desk.front g.N.Names.known g.N.Names.asked c.args.self.now) i.alike.same i.unfit;
@@ -201,16 +201,15 @@ returns-in-Ok-clause-decided g c =
     let rr = c.in_ok-ruling.ensures.ruled in
     let ruled = subst (λ (v : Verdict). IsRuled given c.loop-ruling.look.site rr.compared rr.answers v) (sym c.verdict-verdict.ensures) rr.ruled in
     let here : place known (given.class.0, named.0) ≡ Some given.key.0 = subst (λ (h : Given). place known (h.class.0, named.0) ≡ Some h.key.0) a.same (place-longer _ known (w.class.0, named.0) w.key.0 a.goes.went.named named.1) in
-    let own = subst (λ (h : Given). IsOwnCache h.t known asked h.door.caller log h.cache) a.same (goes_own (given_of g.D.Desk.fixed w) (moment_of g.D.Desk.front g.N.Names.known g.N.Names.asked w) (moment_of g.D.Desk.front g.N.Names.known g.N.Names.asked s) w.cache.now a.goes c.loop-ruling.invariant.own) in
     let goes = subst (λ (h : Given). Goes h (moment_of g.D.Desk.front g.N.Names.known g.N.Names.asked c.args.self.now) (moment_of g.D.Desk.front g.N.Names.known g.N.Names.asked s)) all.same all.goes in
     let unfit = unfit_ruled (given_of g.D.Desk.fixed w) given a.same (given_of g.D.Desk.fixed c.args.self.now) c.loop-ruling.invariant.alike.same (g.D.Desk.front c.args.self.now.desk.now) (g.D.Desk.front w.desk.now) log s.held.now.items c.loop-ruling.invariant.unfit c.ruling.ensures.unfit in
-    let done = call_decided given known asked log s.held.now.items (rr.compared ++ rr.answers) rr.calling new c.loop-ruling.look.site c.verdict-verdict.result d.0 d.1 d.2 legal (ruled_way given known asked log s.held.now.items rr.compared rr.answers rr.calling new c.loop-ruling.look.site c.verdict-verdict.result d.0 d.1 d.2 legal ruled named.0 here d.3.0 own) (ruled_row given known asked log s.held.now.items rr.compared rr.answers rr.calling new c.loop-ruling.look.site c.verdict-verdict.result d.0 d.1 d.2 legal ruled named.0 here d.3.0 own) (g.D.Desk.front c.args.self.now.desk.now) (begun_goes given (moment_of g.D.Desk.front g.N.Names.known g.N.Names.asked c.args.self.now) (moment_of g.D.Desk.front g.N.Names.known g.N.Names.asked s) goes unfit) in
+    let done = call_decided given known asked log s.held.now.items (rr.compared ++ rr.answers) rr.calling new c.loop-ruling.look.site c.verdict-verdict.result d.0 d.1 d.2 legal (ruled_unshared given s.answers.now.items rr.answers c.verdict-verdict.result c.in_ok-ruling.ruling c.verdict-verdict.ensures rr.shows) (ruled_row given known asked log s.held.now.items rr.compared rr.answers rr.calling new c.loop-ruling.look.site c.verdict-verdict.result d.0 d.1 d.2 legal ruled named.0 here d.3.0) (g.D.Desk.front c.args.self.now.desk.now) (begun_goes given (moment_of g.D.Desk.front g.N.Names.known g.N.Names.asked c.args.self.now) (moment_of g.D.Desk.front g.N.Names.known g.N.Names.asked s) goes unfit) in
     rw (c.decide.ensures.fixed, c.reserve.ensures.fixed)
     (subst (λ (o : Option BodySite). Decided given known (g.D.Desk.front c.args.self.now.desk.now) new (verdict_by c.in_ok-ruling.ruling) o) rr.is
     (subst (λ (v : Verdict). Decided given known (g.D.Desk.front c.args.self.now.desk.now) new v c.loop-ruling.look.site) c.verdict-verdict.ensures done))
 
 pub returns-in-Ok-clause-own : goal.returns-in-Ok-clause-own
-returns-in-Ok-clause-own g c =
+returns-in-Ok-clause-own g c past had =
     let s = c.ruling.new.self in let a = c.ruling.ensures.alike in let named = c.loop-ruling.invariant.named in let given = given_of g.D.Desk.fixed s in
     let known = g.N.Names.known s.names.now in let asked = g.N.Names.asked s.names.now in let log = g.D.Desk.front s.desk.now in let new = g.D.Desk.front c.decide.new.self in let w = c.loop-ruling.self in
     let d = rw (c.reserve.ensures.fixed, c.reserve.ensures.front) at c.in-Ok.ensures.answer in
@@ -218,8 +217,22 @@ returns-in-Ok-clause-own g c =
     let rr = c.in_ok-ruling.ensures.ruled in
     let ruled = subst (λ (v : Verdict). IsRuled given c.loop-ruling.look.site rr.compared rr.answers v) (sym c.verdict-verdict.ensures) rr.ruled in
     let here : place known (given.class.0, named.0) ≡ Some given.key.0 = subst (λ (h : Given). place known (h.class.0, named.0) ≡ Some h.key.0) a.same (place-longer _ known (w.class.0, named.0) w.key.0 a.goes.went.named named.1) in
-    let own = subst (λ (h : Given). IsOwnCache h.t known asked h.door.caller log h.cache) a.same (goes_own (given_of g.D.Desk.fixed w) (moment_of g.D.Desk.front g.N.Names.known g.N.Names.asked w) (moment_of g.D.Desk.front g.N.Names.known g.N.Names.asked s) w.cache.now a.goes c.loop-ruling.invariant.own) in
-    subst (λ (x : Fixed). IsOwnBehind (record given { door = x }) known asked new s.held.now.items s.answers.now.items (Ok c.in_ok-ruling.ruling)) (sym (c.decide.ensures.fixed ∙ c.reserve.ensures.fixed)) (ruled_own given known asked log s.held.now.items rr.compared rr.answers rr.calling new c.loop-ruling.look.site c.verdict-verdict.result d.0 d.1 d.2 legal ruled named.0 here d.3.0 own s.answers.now.items c.in_ok-ruling.ruling c.verdict-verdict.ensures rr.is rr.shows)
+    let o = c.args.self.now in let all = alike_on _ _ _ _ _ _ c.loop-ruling.invariant.alike a in
+    let own = subst (λ (h : Given). IsOwnCache h.t known asked h.door.caller past log h.cache) all.same (goes_own (given_of g.D.Desk.fixed o) past (moment_of g.D.Desk.front g.N.Names.known g.N.Names.asked o) (moment_of g.D.Desk.front g.N.Names.known g.N.Names.asked s) o.cache.now all.goes had) in
+    subst (λ (x : Fixed). IsOwnBehind (record given { door = x }) past known asked new s.held.now.items s.answers.now.items (Ok c.in_ok-ruling.ruling)) (sym (c.decide.ensures.fixed ∙ c.reserve.ensures.fixed)) (ruled_own given known asked log s.held.now.items rr.compared rr.answers rr.calling new c.loop-ruling.look.site c.verdict-verdict.result d.0 d.1 d.2 legal ruled named.0 here d.3.0 past own s.answers.now.items c.in_ok-ruling.ruling c.verdict-verdict.ensures rr.is rr.shows)
+
+pub returns-in-Ok-clause-ways : goal.returns-in-Ok-clause-ways
+returns-in-Ok-clause-ways g c past had =
+    let s = c.ruling.new.self in let a = c.ruling.ensures.alike in let named = c.loop-ruling.invariant.named in let given = given_of g.D.Desk.fixed s in
+    let known = g.N.Names.known s.names.now in let asked = g.N.Names.asked s.names.now in let log = g.D.Desk.front s.desk.now in let new = g.D.Desk.front c.decide.new.self in let w = c.loop-ruling.self in
+    let d = rw (c.reserve.ensures.fixed, c.reserve.ensures.front) at c.in-Ok.ensures.answer in
+    let legal : IsLegal (g.D.Desk.fixed s.desk.now).limit new = rw (c.reserve.ensures.fixed) at c.decide.ensures.legal in
+    let rr = c.in_ok-ruling.ensures.ruled in
+    let ruled = subst (λ (v : Verdict). IsRuled given c.loop-ruling.look.site rr.compared rr.answers v) (sym c.verdict-verdict.ensures) rr.ruled in
+    let here : place known (given.class.0, named.0) ≡ Some given.key.0 = subst (λ (h : Given). place known (h.class.0, named.0) ≡ Some h.key.0) a.same (place-longer _ known (w.class.0, named.0) w.key.0 a.goes.went.named named.1) in
+    let o = c.args.self.now in let all = alike_on _ _ _ _ _ _ c.loop-ruling.invariant.alike a in
+    let own = subst (λ (h : Given). IsOwnCache h.t known asked h.door.caller (Some past) log h.cache) all.same (goes_own (given_of g.D.Desk.fixed o) (Some past) (moment_of g.D.Desk.front g.N.Names.known g.N.Names.asked o) (moment_of g.D.Desk.front g.N.Names.known g.N.Names.asked s) o.cache.now all.goes had) in
+    decided_ways (given_of g.D.Desk.fixed o) given all.same (moment_of g.D.Desk.front g.N.Names.known g.N.Names.asked o) known asked log new c.loop-ruling.look.site c.verdict-verdict.result (d.0, d.1, d.2) past all.goes (ruled_ways given known asked log s.held.now.items rr.compared rr.answers rr.calling new c.loop-ruling.look.site c.verdict-verdict.result d.0 d.1 d.2 legal ruled named.0 here d.3.0 past own)
 
 pub returns-in-Ok-clause-grew : goal.returns-in-Ok-clause-grew
 returns-in-Ok-clause-grew g c =
@@ -231,22 +244,31 @@ returns-in-Ok-clause-grew g c =
     let rr = c.in_ok-ruling.ensures.ruled in
     let ruled = subst (λ (v : Verdict). IsRuled given c.loop-ruling.look.site rr.compared rr.answers v) (sym c.verdict-verdict.ensures) rr.ruled in
     let here : place known (given.class.0, named.0) ≡ Some given.key.0 = subst (λ (h : Given). place known (h.class.0, named.0) ≡ Some h.key.0) a.same (place-longer _ known (w.class.0, named.0) w.key.0 a.goes.went.named named.1) in
-    let own = subst (λ (h : Given). IsOwnCache h.t known asked h.door.caller log h.cache) a.same (goes_own (given_of g.D.Desk.fixed w) (moment_of g.D.Desk.front g.N.Names.known g.N.Names.asked w) (moment_of g.D.Desk.front g.N.Names.known g.N.Names.asked s) w.cache.now a.goes c.loop-ruling.invariant.own) in
     let rules = fits_since_on _ _ (moment_of g.D.Desk.front g.N.Names.known g.N.Names.asked c.args.self.now) (moment_of g.D.Desk.front g.N.Names.known g.N.Names.asked w) (moment_of g.D.Desk.front g.N.Names.known g.N.Names.asked s) c.loop-ruling.invariant.alike.same a.goes.went c.loop-ruling.invariant.rules c.ruling.ensures.rules in
-    decided_grew _ given all.same (moment_of g.D.Desk.front g.N.Names.known g.N.Names.asked c.args.self.now) known asked log new c.loop-ruling.look.site c.verdict-verdict.result (d.0, d.1, d.2) (with_rules _ _ _ _ _ _ _ all.goes.grew rules) (subst (λ (h : Given). IsFilled h.args) a.same c.loop-ruling.invariant.args.1) (ruled_row given known asked log s.held.now.items rr.compared rr.answers rr.calling new c.loop-ruling.look.site c.verdict-verdict.result d.0 d.1 d.2 legal ruled named.0 here d.3.0 own)
-    (call_whole given known asked log s.held.now.items (rr.compared ++ rr.answers) rr.calling new c.loop-ruling.look.site c.verdict-verdict.result d.0 d.1 d.2 legal) (ruled_way given known asked log s.held.now.items rr.compared rr.answers rr.calling new c.loop-ruling.look.site c.verdict-verdict.result d.0 d.1 d.2 legal ruled named.0 here d.3.0 own)
+    decided_grew _ given all.same (moment_of g.D.Desk.front g.N.Names.known g.N.Names.asked c.args.self.now) known asked log new c.loop-ruling.look.site c.verdict-verdict.result (d.0, d.1, d.2) (with_rules _ _ _ _ _ _ _ all.goes.grew rules) (subst (λ (h : Given). IsFilled h.args) a.same c.loop-ruling.invariant.args.1) (ruled_row given known asked log s.held.now.items rr.compared rr.answers rr.calling new c.loop-ruling.look.site c.verdict-verdict.result d.0 d.1 d.2 legal ruled named.0 here d.3.0)
+    (call_whole given known asked log s.held.now.items (rr.compared ++ rr.answers) rr.calling new c.loop-ruling.look.site c.verdict-verdict.result d.0 d.1 d.2 legal)
 
 pub returns-in_err-ruling-clause-own : goal.returns-in_err-ruling-clause-own
-returns-in_err-ruling-clause-own g c =
-    let s = c.ruling.new.self in let w = c.loop-ruling.self in let a = c.ruling.ensures.alike in
-    let own = subst (λ (h : Given). IsOwnCache h.t (g.N.Names.known s.names.now) (g.N.Names.asked s.names.now) h.door.caller (g.D.Desk.front s.desk.now) h.cache) a.same (goes_own (given_of g.D.Desk.fixed w) (moment_of g.D.Desk.front g.N.Names.known g.N.Names.asked w) (moment_of g.D.Desk.front g.N.Names.known g.N.Names.asked s) w.cache.now a.goes c.loop-ruling.invariant.own) in
-    own_stopped (given_of g.D.Desk.fixed s) _ _ _ s.held.now.items s.answers.now.items c.from_residual.result c.in_err-ruling.field-0.0 c.from_residual.ensures.1 own
+returns-in_err-ruling-clause-own g c past had =
+    let s = c.ruling.new.self in let o = c.args.self.now in let all = alike_on _ _ _ _ _ _ c.loop-ruling.invariant.alike c.ruling.ensures.alike in
+    let own = subst (λ (h : Given). IsOwnCache h.t (g.N.Names.known s.names.now) (g.N.Names.asked s.names.now) h.door.caller past (g.D.Desk.front s.desk.now) h.cache) all.same (goes_own (given_of g.D.Desk.fixed o) past (moment_of g.D.Desk.front g.N.Names.known g.N.Names.asked o) (moment_of g.D.Desk.front g.N.Names.known g.N.Names.asked s) o.cache.now all.goes had) in
+    own_stopped (given_of g.D.Desk.fixed s) past _ _ _ s.held.now.items s.answers.now.items c.from_residual.result c.in_err-ruling.field-0.0 c.from_residual.ensures.1 own
+
+pub returns-in_err-ruling-clause-ways : goal.returns-in_err-ruling-clause-ways
+returns-in_err-ruling-clause-ways g c past had =
+    let s = c.ruling.new.self in let o = c.args.self.now in let all = alike_on _ _ _ _ _ _ c.loop-ruling.invariant.alike c.ruling.ensures.alike in
+    goes_ways (given_of g.D.Desk.fixed o) past (moment_of g.D.Desk.front g.N.Names.known g.N.Names.asked o) (moment_of g.D.Desk.front g.N.Names.known g.N.Names.asked s) all.goes
 
 pub returns-in_err-reserve-clause-own : goal.returns-in_err-reserve-clause-own
-returns-in_err-reserve-clause-own g c =
-    let s = c.ruling.new.self in let w = c.loop-ruling.self in let a = c.ruling.ensures.alike in
-    let own = subst (λ (h : Given). IsOwnCache h.t (g.N.Names.known s.names.now) (g.N.Names.asked s.names.now) h.door.caller (g.D.Desk.front s.desk.now) h.cache) a.same (goes_own (given_of g.D.Desk.fixed w) (moment_of g.D.Desk.front g.N.Names.known g.N.Names.asked w) (moment_of g.D.Desk.front g.N.Names.known g.N.Names.asked s) w.cache.now a.goes c.loop-ruling.invariant.own) in
-    rw (c.reserve.ensures.fixed, c.reserve.ensures.front) (own_stopped (given_of g.D.Desk.fixed s) _ _ _ s.held.now.items s.answers.now.items c.from_residual-in_err-reserve.result fail.NoMemory c.from_residual-in_err-reserve.ensures.1 own)
+returns-in_err-reserve-clause-own g c past had =
+    let s = c.ruling.new.self in let o = c.args.self.now in let all = alike_on _ _ _ _ _ _ c.loop-ruling.invariant.alike c.ruling.ensures.alike in
+    let own = subst (λ (h : Given). IsOwnCache h.t (g.N.Names.known s.names.now) (g.N.Names.asked s.names.now) h.door.caller past (g.D.Desk.front s.desk.now) h.cache) all.same (goes_own (given_of g.D.Desk.fixed o) past (moment_of g.D.Desk.front g.N.Names.known g.N.Names.asked o) (moment_of g.D.Desk.front g.N.Names.known g.N.Names.asked s) o.cache.now all.goes had) in
+    rw (c.reserve.ensures.fixed, c.reserve.ensures.front) (own_stopped (given_of g.D.Desk.fixed s) past _ _ _ s.held.now.items s.answers.now.items c.from_residual-in_err-reserve.result fail.NoMemory c.from_residual-in_err-reserve.ensures.1 own)
+
+pub returns-in_err-reserve-clause-ways : goal.returns-in_err-reserve-clause-ways
+returns-in_err-reserve-clause-ways g c past had =
+    let s = c.ruling.new.self in let o = c.args.self.now in let all = alike_on _ _ _ _ _ _ c.loop-ruling.invariant.alike c.ruling.ensures.alike in
+    rw (c.reserve.ensures.front) (goes_ways (given_of g.D.Desk.fixed o) past (moment_of g.D.Desk.front g.N.Names.known g.N.Names.asked o) (moment_of g.D.Desk.front g.N.Names.known g.N.Names.asked s) all.goes)
 
 pub returns-in_err-ruling-clause-holds : goal.returns-in_err-ruling-clause-holds
 returns-in_err-ruling-clause-holds g c = c.ruling.ensures.holding.1.holds

@@ -14,7 +14,7 @@ invariant-loop-ruling g l = record {
   answers : l.self.answers.now.items ≡ [];
   compared : l.self.compared.now.items ≡ [];
   few : length (g.N.Names.known l.self.names.now) ≤ NAMES_MAX;
-  own : KeepsOwn g.D.Desk.fixed g.D.Desk.front g.N.Names.known g.N.Names.asked l.self;
+  own : KeepsOwn None g.D.Desk.fixed g.D.Desk.front g.N.Names.known g.N.Names.asked l.self;
   refused : l.self.refused ≡ None;
   named : (bytes : List ℕ) × (place (g.N.Names.known l.self.names.now) (l.self.class.0, bytes) ≡ Some l.self.key.0);
   unfit : fits_of (given_of g.D.Desk.fixed l.fn.self) ≡ false → acts (g.D.Desk.fixed l.fn.self.desk.now).caller (g.D.Desk.front l.self.desk.now) ≡ acts (g.D.Desk.fixed l.fn.self.desk.now).caller (g.D.Desk.front l.fn.self.desk.now);

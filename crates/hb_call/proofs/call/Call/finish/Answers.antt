@@ -13,7 +13,7 @@ use Rattle.hb_call.specs.Seen.{given_of, moment_of}
 use Rattle.hb_call.proofs.HeldLemmas.{all_stand}
 use Rattle.hb_call.proofs.GrowthLemmas.{called_fits}
 use Rattle.hb_call.proofs.FullLemmas.{stopped_fits}
-use Rattle.hb_call.proofs.EnteringLemmas.{back_grew, back_own, back_went, called_of, framed, framed_resting, framed_well, gave_back, same_own, stopped}
+use Rattle.hb_call.proofs.EnteringLemmas.{back_grew, back_own, back_ways, back_went, called_of, framed, framed_resting, framed_well, gave_back, same_own, stopped}
 use Rattle.hb_call.proofs.call.Call.finish.Goals as goal
 
 pub free_keys-requires : goal.free_keys-requires
@@ -32,7 +32,6 @@ returns-in-Ok-Kept g c =
     let given = given_of g.D.Desk.fixed s in let old = g.D.Desk.front o.desk.now in let mid = g.D.Desk.front s.desk.now in
     let known = g.N.Names.known s.names.now in let asked = g.N.Names.asked s.names.now in
     let decided = subst (λ (r : Ruling). Decided given known old mid (verdict_by r) (site_by r)) c.in-Ok-Kept.field-0-is c.in-Ok-Kept.ensures.decided in
-    let own = subst (λ (r : Ruling). IsOwnBehind given known asked mid s.held.now.items s.answers.now.items (Ok r)) c.in-Ok-Kept.field-0-is c.in-Ok-Kept.ensures.own in
     let asks = subst (λ (r : Ruling). AsksNoMore (given_of g.D.Desk.fixed o) (moment_of g.D.Desk.front g.N.Names.known g.N.Names.asked o) (moment_of g.D.Desk.front g.N.Names.known g.N.Names.asked s) r) c.in-Ok-Kept.field-0-is c.in-Ok-Kept.ensures.asks in
     let keys : f.held.items ≡ s.held.now.items = rw e.frame.3 refl in
     let done = framed (given_of g.D.Desk.fixed o) given d.same f e.frame.0 e.frame.1 s.held.now.items keys known old mid (verdict.Enter by.Own) c.in-Ok-Kept.body e.frame.2 decided d.holds in
@@ -47,7 +46,8 @@ returns-in-Ok-Kept g c =
       finished = rw (e.desk, e.names) done;
       ended = rw e.desk (framed_well (given_of g.D.Desk.fixed o) known old mid (verdict.Enter by.Own) f done);
       asks = rw (e.desk, e.names) asks;
-      own = rw (e.desk, e.names) (same_own (given_of g.D.Desk.fixed o) given known asked mid d.same own);
+      own = λ past had. rw (e.desk, e.names) (same_own (given_of g.D.Desk.fixed o) given past known asked mid d.same (subst (λ (r : Ruling). IsOwnBehind given past known asked mid s.held.now.items s.answers.now.items (Ok r)) c.in-Ok-Kept.field-0-is (c.in-Ok-Kept.ensures.own past had)));
+      ways = λ past had. rw e.desk (d.ways past had);
     }
 
 pub returns-in-Ok-Checked : goal.returns-in-Ok-Checked
@@ -56,7 +56,6 @@ returns-in-Ok-Checked g c =
     let given = given_of g.D.Desk.fixed s in let old = g.D.Desk.front o.desk.now in let mid = g.D.Desk.front s.desk.now in
     let known = g.N.Names.known s.names.now in let asked = g.N.Names.asked s.names.now in
     let decided = subst (λ (r : Ruling). Decided given known old mid (verdict_by r) (site_by r)) c.in-Ok-Checked.field-0-is c.in-Ok-Checked.ensures.decided in
-    let own = subst (λ (r : Ruling). IsOwnBehind given known asked mid s.held.now.items s.answers.now.items (Ok r)) c.in-Ok-Checked.field-0-is c.in-Ok-Checked.ensures.own in
     let keys : f.held.items ≡ s.held.now.items = rw e.frame.3 refl in
     let done = framed (given_of g.D.Desk.fixed o) given d.same f e.frame.0 e.frame.1 s.held.now.items keys known old mid (verdict.Enter by.Fresh) c.in-Ok-Checked.derivation.body e.frame.2 decided d.holds in
     record {
@@ -70,7 +69,9 @@ returns-in-Ok-Checked g c =
       finished = rw (e.desk, e.names) done;
       ended = rw e.desk (framed_well (given_of g.D.Desk.fixed o) known old mid (verdict.Enter by.Fresh) f done);
       asks = tt;
-      own = rw (e.desk, e.names, e.answers) (framed_resting (given_of g.D.Desk.fixed o) given d.same f e.frame.0 e.frame.1 s.held.now.items keys known asked mid s.answers.now.items c.in-Ok-Checked.derivation e.frame.2 own);
+      own = λ past had. rw (e.desk, e.names, e.answers) (framed_resting (given_of g.D.Desk.fixed o) given d.same f e.frame.0 e.frame.1 s.held.now.items keys past known asked mid s.answers.now.items c.in-Ok-Checked.derivation e.frame.2
+          (subst (λ (r : Ruling). IsOwnBehind given past known asked mid s.held.now.items s.answers.now.items (Ok r)) c.in-Ok-Checked.field-0-is (c.in-Ok-Checked.ensures.own past had)));
+      ways = λ past had. rw e.desk (d.ways past had);
     }
 
 pub returns-in-Ok-Refused : goal.returns-in-Ok-Refused
@@ -79,7 +80,6 @@ returns-in-Ok-Refused g c =
     let given = given_of g.D.Desk.fixed s in let old = g.D.Desk.front o.desk.now in let mid = g.D.Desk.front s.desk.now in let new = g.D.Desk.front c.free_keys.new.desk in
     let known = g.N.Names.known s.names.now in let asked = g.N.Names.asked s.names.now in let was = moment_of g.D.Desk.front g.N.Names.known g.N.Names.asked o in
     let decided = subst (λ (r : Ruling). Decided given known old mid (verdict_by r) (site_by r)) c.in-Ok-Refused.field-0-is c.in-Ok-Refused.ensures.decided in
-    let own = subst (λ (r : Ruling). IsOwnBehind given known asked mid s.held.now.items s.answers.now.items (Ok r)) c.in-Ok-Refused.field-0-is c.in-Ok-Refused.ensures.own in
     let back = f.acts ∙ ap (λ ks. acts given.door.caller mid ++ frees s.q ks) c.deref.ensures.value in
     record {
       desk = d.desk;
@@ -92,7 +92,8 @@ returns-in-Ok-Refused g c =
       finished = gave_back (given_of g.D.Desk.fixed o) given known old mid new c.in-Ok-Refused.verdict c.in-Ok-Refused.field-0-0 s.held.now.items d.same decided d.holds f.kept back;
       ended = tt;
       asks = tt;
-      own = back_own (given_of g.D.Desk.fixed o) given d.same was known asked mid new s.held.now.items f.kept back own;
+      own = λ past had. back_own (given_of g.D.Desk.fixed o) given d.same was known asked mid new s.held.now.items f.kept back past (subst (λ (r : Ruling). IsOwnBehind given past known asked mid s.held.now.items s.answers.now.items (Ok r)) c.in-Ok-Refused.field-0-is (c.in-Ok-Refused.ensures.own past had));
+      ways = λ past had. back_ways (given_of g.D.Desk.fixed o) given d.same was known asked mid new s.held.now.items f.kept back past (d.ways past had);
     }
 
 pub returns-in-Err : goal.returns-in-Err
@@ -100,7 +101,6 @@ returns-in-Err g c =
     let o = c.args.self.now in let d = c.decide.ensures in let s = c.decide.new.self in let f = c.free_keys-in-Err.ensures in
     let given = given_of g.D.Desk.fixed s in let old = g.D.Desk.front o.desk.now in let mid = g.D.Desk.front s.desk.now in let new = g.D.Desk.front c.free_keys-in-Err.new.desk in
     let known = g.N.Names.known s.names.now in let asked = g.N.Names.asked s.names.now in let was = moment_of g.D.Desk.front g.N.Names.known g.N.Names.asked o in
-    let own = c.in-Err.ensures.own in
     let legal : IsLegal given.door.limit mid = subst (λ (h : Given). IsLegal h.door.limit mid) d.same (d.went.legal c.requires.calling.legal) in
     let back = f.acts ∙ ap (λ ks. acts given.door.caller mid ++ frees s.q ks) c.deref-in-Err.ensures.value in
     record {
@@ -114,5 +114,6 @@ returns-in-Err g c =
       finished = stopped (given_of g.D.Desk.fixed o) given known old mid new s.held.now.items d.first.0 c.in-Err.cause d.same d.first.1 c.in-Err.ensures.full d.holds back c.in-Err.ensures.goes.goes.begun;
       ended = tt;
       asks = tt;
-      own = back_own (given_of g.D.Desk.fixed o) given d.same was known asked mid new s.held.now.items f.kept back own;
+      own = λ past had. back_own (given_of g.D.Desk.fixed o) given d.same was known asked mid new s.held.now.items f.kept back past (c.in-Err.ensures.own past had);
+      ways = λ past had. back_ways (given_of g.D.Desk.fixed o) given d.same was known asked mid new s.held.now.items f.kept back past (d.ways past had);
     }

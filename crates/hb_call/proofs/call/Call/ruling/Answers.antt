@@ -44,7 +44,7 @@ pub returns-in_default-clause-ruled : goal.returns-in_default-clause-ruled
 returns-in_default-clause-ruled g c =
     let s = c.args.self.now in let gone : c.args.site ≡ None = search rules in
     ruled_early (given_of g.D.Desk.fixed s) (moment_of g.D.Desk.front g.N.Names.known g.N.Names.asked s) s.held.now.items s.answers.now.items (s.compared.now.items ++ s.answers.now.items) c.args.site verdict.NoBody
-    (no_body s.prog.now s.class.0 c.args.site s.own.ty (kinds_of s.args) (ap (body_at s.prog.now) gone)) (λ x k log. tt) refl (ap (λ (l : List Answer). s.compared.now.items ++ l) c.requires.fresh.0 ∙ ap (λ (l : List Answer). l ++ []) c.requires.fresh.1) c.requires.calling
+    (no_body s.prog.now s.class.0 c.args.site s.own.ty (kinds_of s.args) (ap (body_at s.prog.now) gone)) (λ x past k log. tt) refl (ap (λ (l : List Answer). s.compared.now.items ++ l) c.requires.fresh.0 ∙ ap (λ (l : List Answer). l ++ []) c.requires.fresh.1) c.requires.calling
 
 pub returns-then-body-bodies-clause-alike : goal.returns-then-body-bodies-clause-alike
 returns-then-body-bodies-clause-alike g c = alike_itself _ _
@@ -68,7 +68,7 @@ returns-then-body-bodies-clause-ruled g c =
     let s = c.args.self.now in let here : body_at s.prog.now c.args.site ≡ None = ap (body_at s.prog.now) c.in-Some.is ∙ slice_get_past s.prog.now.bodies c.in-Some.body.0 (omega arith) in
     subst (λ (o : Option BodySite). IsRuledAt (given_of g.D.Desk.fixed s) (moment_of g.D.Desk.front g.N.Names.known g.N.Names.asked s) s.held.now.items s.answers.now.items c.args.site (ruling.Refused o verdict.NoBody)) c.in-Some.is
     (ruled_early (given_of g.D.Desk.fixed s) (moment_of g.D.Desk.front g.N.Names.known g.N.Names.asked s) s.held.now.items s.answers.now.items (s.compared.now.items ++ s.answers.now.items) c.args.site verdict.NoBody
-    (no_body s.prog.now s.class.0 c.args.site s.own.ty (kinds_of s.args) here) (λ x k log. tt) refl (ap (λ (l : List Answer). s.compared.now.items ++ l) c.requires.fresh.0 ∙ ap (λ (l : List Answer). l ++ []) c.requires.fresh.1) c.requires.calling)
+    (no_body s.prog.now s.class.0 c.args.site s.own.ty (kinds_of s.args) here) (λ x past k log. tt) refl (ap (λ (l : List Answer). s.compared.now.items ++ l) c.requires.fresh.0 ∙ ap (λ (l : List Answer). l ++ []) c.requires.fresh.1) c.requires.calling)
 
 pub returns-in_default-ty-clause-alike : goal.returns-in_default-ty-clause-alike
 returns-in_default-ty-clause-alike g c = alike_itself _ _
@@ -92,7 +92,7 @@ returns-in_default-ty-clause-ruled g c =
     let s = c.args.self.now in let has = there s.prog.now.bodies c.in-Some.body.0 (omega arith) in let gone : s.own.ty ≡ None = search rules in
     subst (λ (o : Option BodySite). IsRuledAt (given_of g.D.Desk.fixed s) (moment_of g.D.Desk.front g.N.Names.known g.N.Names.asked s) s.held.now.items s.answers.now.items c.args.site (ruling.Refused o verdict.NoType)) c.in-Some.is
     (ruled_early (given_of g.D.Desk.fixed s) (moment_of g.D.Desk.front g.N.Names.known g.N.Names.asked s) s.held.now.items s.answers.now.items (s.compared.now.items ++ s.answers.now.items) c.args.site verdict.NoType
-    (no_type s.prog.now s.class.0 c.args.site s.own.ty (kinds_of s.args) has.0 (ap (body_at s.prog.now) c.in-Some.is ∙ has.1) (ap (type_declared s.prog.now) gone)) (λ x k log. tt) refl (ap (λ (l : List Answer). s.compared.now.items ++ l) c.requires.fresh.0 ∙ ap (λ (l : List Answer). l ++ []) c.requires.fresh.1) c.requires.calling)
+    (no_type s.prog.now s.class.0 c.args.site s.own.ty (kinds_of s.args) has.0 (ap (body_at s.prog.now) c.in-Some.is ∙ has.1) (ap (type_declared s.prog.now) gone)) (λ x past k log. tt) refl (ap (λ (l : List Answer). s.compared.now.items ++ l) c.requires.fresh.0 ∙ ap (λ (l : List Answer). l ++ []) c.requires.fresh.1) c.requires.calling)
 
 pub returns-then-declared-types-clause-alike : goal.returns-then-declared-types-clause-alike
 returns-then-declared-types-clause-alike g c = alike_itself _ _
@@ -116,7 +116,7 @@ returns-then-declared-types-clause-ruled g c =
     let s = c.args.self.now in let has = there s.prog.now.bodies c.in-Some.body.0 (omega arith) in let gone : type_declared s.prog.now s.own.ty ≡ None = ap (type_declared s.prog.now) c.in-Some-ty.is ∙ ap (option_map (λ y. y.0)) (slice_get_past s.prog.now.types c.in-Some-ty.declared.0 (omega arith)) in
     subst (λ (o : Option BodySite). IsRuledAt (given_of g.D.Desk.fixed s) (moment_of g.D.Desk.front g.N.Names.known g.N.Names.asked s) s.held.now.items s.answers.now.items c.args.site (ruling.Refused o verdict.NoType)) c.in-Some.is
     (ruled_early (given_of g.D.Desk.fixed s) (moment_of g.D.Desk.front g.N.Names.known g.N.Names.asked s) s.held.now.items s.answers.now.items (s.compared.now.items ++ s.answers.now.items) c.args.site verdict.NoType
-    (no_type s.prog.now s.class.0 c.args.site s.own.ty (kinds_of s.args) has.0 (ap (body_at s.prog.now) c.in-Some.is ∙ has.1) gone) (λ x k log. tt) refl (ap (λ (l : List Answer). s.compared.now.items ++ l) c.requires.fresh.0 ∙ ap (λ (l : List Answer). l ++ []) c.requires.fresh.1) c.requires.calling)
+    (no_type s.prog.now s.class.0 c.args.site s.own.ty (kinds_of s.args) has.0 (ap (body_at s.prog.now) c.in-Some.is ∙ has.1) gone) (λ x past k log. tt) refl (ap (λ (l : List Answer). s.compared.now.items ++ l) c.requires.fresh.0 ∙ ap (λ (l : List Answer). l ++ []) c.requires.fresh.1) c.requires.calling)
 
 pub returns-then-not-takes-clause-alike : goal.returns-then-not-takes-clause-alike
 returns-then-not-takes-clause-alike g c = alike_itself _ _
@@ -140,7 +140,7 @@ returns-then-not-takes-clause-ruled g c =
     let s = c.args.self.now in let has = there s.prog.now.bodies c.in-Some.body.0 (omega arith) in let typed : type_declared s.prog.now s.own.ty ≡ Some c.type_of.result = ap (type_declared s.prog.now) c.in-Some-ty.is ∙ c.type_of.ensures.value in
     subst (λ (o : Option BodySite). IsRuledAt (given_of g.D.Desk.fixed s) (moment_of g.D.Desk.front g.N.Names.known g.N.Names.asked s) s.held.now.items s.answers.now.items c.args.site (ruling.Refused o verdict.BadArgs)) c.in-Some.is
     (ruled_early (given_of g.D.Desk.fixed s) (moment_of g.D.Desk.front g.N.Names.known g.N.Names.asked s) s.held.now.items s.answers.now.items (s.compared.now.items ++ s.answers.now.items) c.args.site verdict.BadArgs
-    (bad_args s.prog.now s.class.0 c.args.site s.own.ty (kinds_of s.args) has.0 c.type_of.result (ap (body_at s.prog.now) c.in-Some.is ∙ has.1) typed (sym c.takes.ensures ∙ c.if-not-takes.true)) (λ x k log. tt) refl (ap (λ (l : List Answer). s.compared.now.items ++ l) c.requires.fresh.0 ∙ ap (λ (l : List Answer). l ++ []) c.requires.fresh.1) c.requires.calling)
+    (bad_args s.prog.now s.class.0 c.args.site s.own.ty (kinds_of s.args) has.0 c.type_of.result (ap (body_at s.prog.now) c.in-Some.is ∙ has.1) typed (sym c.takes.ensures ∙ c.if-not-takes.true)) (λ x past k log. tt) refl (ap (λ (l : List Answer). s.compared.now.items ++ l) c.requires.fresh.0 ∙ ap (λ (l : List Answer). l ++ []) c.requires.fresh.1) c.requires.calling)
 
 pub takes-requires-clause-form : goal.takes-requires-clause-form
 takes-requires-clause-form g c = c.type_of.ensures.meets.form

@@ -12,4 +12,4 @@ returns-clause-stands c t known is =
     (c.in_ok-push.ensures.items ∙ ap (λ l. l ++ cont.Items c.args.block 0 ∷ []) c.new-conts.ensures.items) c.new-5.ensures.items (c.journal.ensures.none c.args.caller) is
 
 pub returns-clause-own : goal.returns-clause-own
-returns-clause-own c t known asked log none = own_none t known asked _ log _ none (λ k. ap (λ l. kept_at l k) c.new-4.ensures)
+returns-clause-own c t known asked log = own_none t known asked _ log _ (λ k. ap (λ l. kept_at l k) c.new-4.ensures)

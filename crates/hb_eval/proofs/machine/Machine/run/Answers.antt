@@ -10,7 +10,7 @@ returns-in_default g c =
     let old = c.args.self.now in
     let new = c.open.new.self in
     record {
-      advances = opened_advances c.args.prog.now _ _ _ _ _ _ c.requires.own o;
+      advances = opened_advances c.args.prog.now _ _ _ _ _ _ o;
       turns = rest_last new.hand new.conts.items c.in_default.not-Begins o.rest;
       quiet = λ same. refl;
       begun = inr (o.steady.begun, none_begun old.hand new.hand old.state.begun old.conts.items c.requires.going o.first c.in_default.not-Begins);
@@ -23,7 +23,7 @@ returns-in_default g c =
     }
 
 pub returns-clause-advances : goal.returns-clause-advances
-returns-clause-advances g c = begun_advances c.args.prog.now _ _ _ _ _ _ _ _ _ c.in_ok-open.ensures.opens c.in_ok-begin_next.ensures.begins
+returns-clause-advances g c = begun_advances c.args.prog.now _ _ _ _ _ _ _ _ _ _ c.in_ok-open.ensures.opens c.in_ok-begin_next.ensures.begins
 
 pub returns-clause-quiet : goal.returns-clause-quiet
 returns-clause-quiet g c same = absurd (let a = c.in_ok-open.ensures.opens.steady.begun in let b = c.in_ok-begin_next.ensures.begins.begun in omega (arith, a, b, same))

@@ -1,6 +1,5 @@
 use Rattle.std.proofs.Common.{◌+◌, refl, sym, subst}
 use Rattle.hb_tables.specs.Answers.{Fixed}
-use Rattle.hb_call.specs.OwnCache.{IsOwnCache}
 use Rattle.hb_eval.specs.Holding.{Holding, frames_of}
 use Rattle.hb_eval.specs.Machines.{Carries}
 use Rattle.hb_eval.proofs.StayingLemmas.{prefix_itself, stays_on, stays_apart}
@@ -24,9 +23,8 @@ returns-clause-carries g c =
     let half = g.D.Desk.front c.steps.new.desk in
     let now = g.D.Desk.front c.end_stop.new.desk in
     let first = c.in_ok-steps.ensures.carries in
-    let own = subst (λ (z : Fixed). IsOwnCache t known asked z.caller half c.steps.new.self.state.cache) (sym c.steps.ensures.stays.fixed) first.own in
-    let then = subst (λ (z : Fixed). Carries t z.caller known asked asked half now c.steps.new.self c.end_stop.new.self) c.steps.ensures.stays.fixed (c.end_stop.ensures.unwinds t first.fine known asked own) in
-    carries_on t who known known _ asked asked _ half now c.args.self.now c.steps.new.self c.end_stop.new.self (prefix_itself known) first then
+    let then = subst (λ (z : Fixed). Carries t z.caller known known asked asked half now c.steps.new.self c.end_stop.new.self) c.steps.ensures.stays.fixed (c.end_stop.ensures.unwinds t first.fine known asked) in
+    carries_on t who _ known known _ asked asked _ half now c.args.self.now c.steps.new.self c.end_stop.new.self (prefix_itself known) first then
 
 pub returns-clause-holding : goal.returns-clause-holding
 returns-clause-holding g c = subst (λ (z : Fixed). Holding z.caller (c.end_stop.new.self.state.made + 1) (frames_of c.end_stop.new.self.frames.items) (g.D.Desk.front c.end_stop.new.desk)) c.steps.ensures.stays.fixed c.end_stop.ensures.holding
@@ -42,6 +40,5 @@ returns-clause-shares g c =
     let asked = g.N.Names.asked c.steps.new.names in
     let half = g.D.Desk.front c.steps.new.desk in
     let now = g.D.Desk.front c.end_stop.new.desk in
-    let own = subst (λ (z : Fixed). IsOwnCache t known asked z.caller half c.steps.new.self.state.cache) (sym c.steps.ensures.stays.fixed) c.in_ok-steps.ensures.carries.own in
-    let then = subst (λ (z : Fixed). Carries t z.caller known asked asked half now c.steps.new.self c.end_stop.new.self) c.steps.ensures.stays.fixed (c.end_stop.ensures.unwinds t c.in_ok-steps.ensures.carries.fine known asked own) in
+    let then = subst (λ (z : Fixed). Carries t z.caller known known asked asked half now c.steps.new.self c.end_stop.new.self) c.steps.ensures.stays.fixed (c.end_stop.ensures.unwinds t c.in_ok-steps.ensures.carries.fine known asked) in
     shares_on t known known who _ half now _ _ _ (prefix_itself known) c.in_ok-steps.ensures.shares (shares_quiet t known known who half now c.steps.new.self.state c.end_stop.new.self.state _ _ c.steps.new.share c.steps.new.share then.reads c.end_stop.ensures.calls.fresh refl)

@@ -1,6 +1,6 @@
-use Rattle.std.proofs.Common.{◌+◌, ◌∙◌, refl, subst, sym}
+use Rattle.std.proofs.Common.{None, ◌+◌, ◌∙◌, refl, subst, sym}
 use Rattle.hb_tables.specs.Answers.{Fixed}
-use Rattle.hb_call.specs.OwnCache.{IsOwnCache}
+use Rattle.hb_call.specs.OwnCache.{IsTrueCache}
 use Rattle.hb_eval.specs.Holding.{Holding, frames_of}
 use Rattle.hb_eval.specs.Machines.{Carries}
 use Rattle.hb_eval.proofs.StayingLemmas.{stays_itself, stays_on}
@@ -11,7 +11,7 @@ use Rattle.hb_eval.proofs.machine.Machine.steps.Goals as goal
 
 pub steps-init : goal.steps-init
 steps-init g c = record {
-  carries = carries_held c.args.prog.now _ _ _ _ c.args.self.now c.args.self.now.conts refl c.requires.fine c.requires.own;
+  carries = carries_held c.args.prog.now _ _ _ _ c.args.self.now c.args.self.now.conts refl c.requires.fine;
   holding = c.requires.holding;
   stays = stays_itself _ _ _;
   shares = shares_itself _ _ _ _ _;
@@ -25,7 +25,7 @@ pub step-requires : goal.step-requires
 step-requires g c = record {
   fine = c.steps.invariant.carries.fine;
   gives = c.steps.invariant.gives;
-  own = subst (λ (z : Fixed). IsOwnCache c.args.prog.now (g.N.Names.known c.steps.names) (g.N.Names.asked c.steps.names) z.caller (g.D.Desk.front c.steps.desk) c.steps.self.state.cache) (sym c.steps.invariant.stays.fixed) c.steps.invariant.carries.own;
+  cache = subst (λ (z : Fixed). IsTrueCache c.args.prog.now (g.N.Names.known c.steps.names) (g.N.Names.asked c.steps.names) z.caller (g.D.Desk.front c.steps.desk) c.steps.self.state.cache) (sym c.steps.invariant.stays.fixed) (c.steps.invariant.carries.own.own None c.requires.cache);
   holding = subst (λ (z : Fixed). Holding z.caller (c.steps.self.state.made + 1) (frames_of c.steps.self.frames.items) (g.D.Desk.front c.steps.desk)) (sym c.steps.invariant.stays.fixed) c.steps.invariant.holding;
 }
 
@@ -36,8 +36,8 @@ steps-preserved g c =
     let same = inv.stays.fixed in
     let s = c.in_ok-step.ensures in
     record {
-      carries = carries_on c.args.prog.now who _ _ _ _ _ _ _ _ _ _ _ s.stays.named inv.carries
-          (subst (λ (z : Fixed). Carries c.args.prog.now z.caller (g.N.Names.known c.step.new.names) (g.N.Names.asked c.steps.names) (g.N.Names.asked c.step.new.names) (g.D.Desk.front c.steps.desk) (g.D.Desk.front c.step.new.desk) c.steps.self c.step.new.self) same s.carries);
+      carries = carries_on c.args.prog.now who _ _ _ _ _ _ _ _ _ _ _ _ s.stays.named inv.carries
+          (subst (λ (z : Fixed). Carries c.args.prog.now z.caller (g.N.Names.known c.steps.names) (g.N.Names.known c.step.new.names) (g.N.Names.asked c.steps.names) (g.N.Names.asked c.step.new.names) (g.D.Desk.front c.steps.desk) (g.D.Desk.front c.step.new.desk) c.steps.self c.step.new.self) same s.carries);
       holding = subst (λ (z : Fixed). Holding z.caller (c.step.new.self.state.made + 1) (frames_of c.step.new.self.frames.items) (g.D.Desk.front c.step.new.desk)) same s.holding;
       stays = stays_on _ _ _ _ _ _ _ _ _ inv.stays s.stays;
       shares = shares_on c.args.prog.now _ _ who _ _ _ _ _ _ s.stays.named inv.shares
@@ -55,8 +55,8 @@ pub returns-clause-carries : goal.returns-clause-carries
 returns-clause-carries g c =
     let inv = c.steps.invariant in
     let s = c.in_ok-step.ensures in
-    carries_on c.args.prog.now (g.D.Desk.fixed c.args.desk.now).caller _ _ _ _ _ _ _ _ _ _ _ s.stays.named inv.carries
-    (subst (λ (z : Fixed). Carries c.args.prog.now z.caller (g.N.Names.known c.step.new.names) (g.N.Names.asked c.steps.names) (g.N.Names.asked c.step.new.names) (g.D.Desk.front c.steps.desk) (g.D.Desk.front c.step.new.desk) c.steps.self c.step.new.self) inv.stays.fixed s.carries)
+    carries_on c.args.prog.now (g.D.Desk.fixed c.args.desk.now).caller _ _ _ _ _ _ _ _ _ _ _ _ s.stays.named inv.carries
+    (subst (λ (z : Fixed). Carries c.args.prog.now z.caller (g.N.Names.known c.steps.names) (g.N.Names.known c.step.new.names) (g.N.Names.asked c.steps.names) (g.N.Names.asked c.step.new.names) (g.D.Desk.front c.steps.desk) (g.D.Desk.front c.step.new.desk) c.steps.self c.step.new.self) inv.stays.fixed s.carries)
 
 pub returns-clause-stays : goal.returns-clause-stays
 returns-clause-stays g c = stays_on _ _ _ _ _ _ _ _ _ c.steps.invariant.stays c.step.ensures.stays
@@ -69,7 +69,7 @@ returns-clause-shares g c =
     (subst (λ (z : Fixed). Shares c.args.prog.now (g.N.Names.known c.step.new.names) z.caller (g.D.Desk.front c.steps.desk) (g.D.Desk.front c.step.new.desk) c.steps.share c.step.new.share) inv.stays.fixed s.shares)
 
 pub returns-in_default-clause-carries : goal.returns-in_default-clause-carries
-returns-in_default-clause-carries g c = carries_held c.args.prog.now _ _ _ _ c.args.self.now c.args.self.now.conts refl c.requires.fine c.requires.own
+returns-in_default-clause-carries g c = carries_held c.args.prog.now _ _ _ _ c.args.self.now c.args.self.now.conts refl c.requires.fine
 
 pub returns-in_default-clause-settled : goal.returns-in_default-clause-settled
 returns-in_default-clause-settled g c = settled_apart c.args.self.now.hand c.args.self.now.conts.items c.in_default.not-Gives

@@ -21,7 +21,7 @@ pub passing-init : goal.passing-init
 passing-init g c = record {
   fine = λ t fine. fine;
   stops = c.requires.stops;
-  unwinds = λ t fine known asked own. carries_held t _ known asked _ c.args.self.now c.args.self.now.conts refl fine own;
+  unwinds = λ t fine known asked. carries_held t _ known asked _ c.args.self.now c.args.self.now.conts refl fine;
   calls = record { made = refl; decided = refl; own = refl; fresh = refl };
   holding = c.requires.holding;
   kept = prefix_itself _;
@@ -66,10 +66,10 @@ passing-preserved g c =
     record {
       fine = λ t fine. stop_fine t old new k (reverse c.pop.new.self.items) inv.stops top (inv.fine t fine) (low t) refl refl;
       stops = inv.stops;
-      unwinds = λ t fine known asked own.
-          let a = inv.unwinds t fine known asked own in
-          carries_on t who known known asked asked asked _ half now c.args.self.now old new (prefix_itself known) a
-          (stop_turn t who known asked half now old new k (reverse c.pop.new.self.items) inv.stops top (inv.fine t fine) (reads t known) (low t) (grown t known asked) (stays t known asked a.own) refl refl);
+      unwinds = λ t fine known asked.
+          let a = inv.unwinds t fine known asked in
+          carries_on t who known known known asked asked asked _ half now c.args.self.now old new (prefix_itself known) a
+          (stop_turn t who known asked half now old new k (reverse c.pop.new.self.items) inv.stops top (inv.fine t fine) (reads t known) (low t) (grown t known asked) (stays t known asked) refl refl);
       calls = let same = (low c.requires.fine.0).steady.calls in record { made = same.made ∙ inv.calls.made; decided = same.decided ∙ inv.calls.decided; own = same.own ∙ inv.calls.own; fresh = same.fresh ∙ inv.calls.fresh };
       holding = subst (λ (z : Fixed). Holding z.caller (c.pass.new.state.made + 1) (frames_of c.pass.new.frames.items) now) same c.pass.ensures.holding;
       kept = prefix_more _ _ _ inv.kept c.pass.ensures.kept;
@@ -80,8 +80,8 @@ passing-preserved g c =
     }
 
 pub returns-clause-unwinds : goal.returns-clause-unwinds
-returns-clause-unwinds g c t fine known asked own =
-    let a = c.passing.invariant.unwinds t fine known asked own in
+returns-clause-unwinds g c t fine known asked =
+    let a = c.passing.invariant.unwinds t fine known asked in
     let all : c.passing.self.conts.items ≡ c.pop.new.self.items = c.in_default.ensures.items ∙ append-nil c.pop.new.self.items in
-    carries_on t _ known known asked asked asked _ _ _ c.args.self.now c.passing.self _ (prefix_itself known) a
-    (carries_held t _ known asked _ c.passing.self c.pop.new.self (sym all) a.fine a.own)
+    carries_on t _ known known known asked asked asked _ _ _ c.args.self.now c.passing.self _ (prefix_itself known) a
+    (carries_held t _ known asked _ c.passing.self c.pop.new.self (sym all) a.fine)

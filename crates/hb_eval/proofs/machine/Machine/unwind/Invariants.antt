@@ -3,7 +3,6 @@ use mathlib.Core.List.{IsPrefix}
 use Rattle.hb_tree.specs.Table.{Table}
 use Rattle.hb_names.specs.Names.{Name}
 use Rattle.hb_tables.specs.History.{IsLegal}
-use Rattle.hb_call.specs.OwnCache.{IsOwnCache}
 use Rattle.hb_eval.specs.declared.state.Hand.TheVariants as hands
 use Rattle.hb_eval.specs.Holding.{Holding, frames_of}
 use Rattle.hb_eval.specs.Machines.{Carries, IsFineMachine}
@@ -14,8 +13,7 @@ abbrev pub invariant-passing : goal.invariant-passing
 invariant-passing g l = record {
   fine : (t : Table) → IsFineMachine t l.fn.self → IsFineMachine t l.self;
   stops : l.self.hand ≡ hands.Stops;
-  unwinds : (t : Table) → IsFineMachine t l.fn.self → (known asked : List Name) → IsOwnCache t known asked (g.D.Desk.fixed l.fn.desk).caller (g.D.Desk.front l.fn.desk) l.fn.self.state.cache
-      → Carries t (g.D.Desk.fixed l.fn.desk).caller known asked asked (g.D.Desk.front l.fn.desk) (g.D.Desk.front l.desk) l.fn.self l.self;
+  unwinds : (t : Table) → IsFineMachine t l.fn.self → (known asked : List Name) → Carries t (g.D.Desk.fixed l.fn.desk).caller known known asked asked (g.D.Desk.front l.fn.desk) (g.D.Desk.front l.desk) l.fn.self l.self;
   calls : SameCalls l.fn.self.state l.self.state;
   holding : Holding (g.D.Desk.fixed l.fn.desk).caller (l.self.state.made + 1) (frames_of l.self.frames.items) (g.D.Desk.front l.desk);
   kept : IsPrefix (g.D.Desk.front l.fn.desk) (g.D.Desk.front l.desk);
