@@ -17,7 +17,7 @@ use Rattle.hb_eval.specs.declared.machine.Machine.{Machine}
 use Rattle.hb_eval.specs.Machines.{StandsFor, keeps}
 use Rattle.hb_eval.specs.State.{tagged}
 use Rattle.hb_eval.specs.Staying.{Stays}
-use Rattle.hb_run.specs.Going.{GoesOn, RanAlone, Went}
+use Rattle.hb_run.specs.Going.{GoesOn, Went}
 
 pub went_itself : (t : Table) (door : Fixed) (names asked : List Name) (log : List Entry) (m : Machine) → Went t door door names names asked asked log log m m
 went_itself t door names asked log m = record {
@@ -85,24 +85,3 @@ went_turn t door later latest names known more was asked again log now last old 
           caller = caller ∙ w.caller;
           keeps = kept ∙ w.keeps;
         }
-
-pub ran-alone : (t : Table) (door later : Fixed) (names known was : List Name) (log now : List Entry) (old new : Machine)
-    → Went t door later names known was known log now old new → names ≡ [] → was ≡ [] → log ≡ [] → door.caller ≡ 1
-    → RanAlone t known now old new
-ran-alone t door later names known was log now old new w no_names no_asked no_log first = record {
-  goes = subst (λ (c : ℕ). GoesOn t c [] known [] now old new) first
-      (subst (λ (l : List Entry). GoesOn t door.caller [] known l now old new) no_log
-      (subst (λ (n : List Name). GoesOn t door.caller n known log now old new) no_names w.goes));
-  grown = subst (λ (c : ℕ). Grown t c known [] known [] now) first
-      (subst (λ (l : List Entry). Grown t door.caller known [] known l now) no_log
-      (subst (λ (n : List Name). Grown t door.caller known n known log now) no_asked w.grown));
-  checks = subst (λ (c : ℕ). KeepsChecks t c [] known [] known [] now old.state.cache new.state.cache) first
-      (subst (λ (l : List Entry). KeepsChecks t door.caller [] known [] known l now old.state.cache new.state.cache) no_log
-      (subst (λ (n : List Name). KeepsChecks t door.caller [] known n known log now old.state.cache new.state.cache) no_asked
-      (subst (λ (n : List Name). KeepsChecks t door.caller n known was known log now old.state.cache new.state.cache) no_names w.checks)));
-  few = w.stays.few (subst (λ (n : List Name). length n ≤ NAMES_MAX) (sym no_names) (omega arith));
-  differ = w.stays.differ (subst Differ (sym no_names) (λ i j name x y. absurd (none i x)));
-}
-  where
-    none : (i : ℕ) {name : Name} → slice_get [] i ≡ Some name → ⊥
-    none i e = cc e

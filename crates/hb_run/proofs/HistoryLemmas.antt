@@ -1,4 +1,4 @@
--- The history of a program of one script, or of none.
+-- The keys of a history and the names that were asked for.
 use Rattle.std.proofs.Common.{◌≡◌, ◌⊎◌, inl, inr, ℕ, zero, suc, ◌<◌, ◌≤◌, List, [], ◌∷◌, ◌++◌, length, map, Option, Some, None, true, false, Bool, refl, sym, ap, ◌∙◌, subst, arith, append_assoc, rules}
 use Rattle.std.specs.Prelude.{All, Contains, slice_get, slice_index_or, is_some, IsSome, cond, option_map, ◌==◌, if◌then◌else◌}
 use Rattle.std.proofs.lemmas.List.{append-nil}
@@ -27,38 +27,6 @@ use Rattle.hb_eval.specs.declared.script_run.ScriptRun.{ScriptRun}
 use Rattle.hb_eval.specs.Machines.{Finishes, StandsFor}
 use Rattle.hb_run.specs.Going.{RanAlone}
 use Rattle.hb_run.specs.History.{AreAllRuns, AreRuns, IsHistory, IsUsed, block_of, callers_from}
-
-none_there : {X : Type 0} (before after : List X) (e : X) → [] ≡ before ++ e ∷ after → ⊥
-none_there [] after e is = cc is
-none_there (b ∷ before) after e is = cc is
-
--- what is true of each entry is true of one of them
-each_at : {X : Type 0} (P : X → Type 0) (xs before after : List X) (e : X) → AllByRecursion P xs → xs ≡ before ++ e ∷ after → P e
-each_at P [] before after e all is = absurd (none_there before after e is)
-each_at P (x ∷ xs) [] after e all is = let same : x ≡ e = cc is in subst P same all.0
-each_at P (x ∷ xs) (b ∷ before) after e all is = each_at P xs before after e all.1 (cc is)
-
--- a program without a script has the empty history
-pub history-none : (t : Table) (limit steps : ℕ) → t.setup ≡ None → length t.scripts ≡ 0 → IsHistory t limit steps [] [] []
-history-none t limit steps setup scripts = record {
-  legal = λ before after e is. absurd (none_there before after e is);
-  rules = λ before after e is. absurd (none_there before after e is);
-  ways = λ before after e is. absurd (none_there before after e is);
-  differ = λ i j name x y. absurd (empty i x);
-  few = omega arith;
-  keys = λ before after e is. absurd (none_there before after e is);
-  used = λ key h. absurd (omega (arith, h));
-  callers = λ before after e is. absurd (none_there before after e is);
-  in_turn = λ before after e is. absurd (none_there before after e is);
-  all_runs = subst (λ (s : Option NodeId). AreAllRuns t [] steps [] s []) (sym setup) (runs t.scripts scripts);
-}
-  where
-    empty : (i : ℕ) {name : Name} → slice_get [] i ≡ Some name → ⊥
-    empty i e = cc e
-
-    runs : (scripts : List (NameId × NodeId)) → length scripts ≡ 0 → AreRuns t [] steps [] (callers_from 1 scripts) []
-    runs [] e = tt
-    runs (s ∷ ss) e = absurd (omega (arith, e))
 
 -- ── each name that was asked for is that of an act's key ──
 
@@ -139,14 +107,6 @@ used_all names log differ has key below =
     at_place (x ∷ xs) zero name e = (0, omega arith, let same : x ≡ name = cc in same)
     at_place (x ∷ xs) (suc k) name e = let h = at_place xs k name e in (suc h.0, omega (arith, h.1), h.2)
 
-used-key : (names : List Name) (log : List Entry) (c key : ℕ) (made : List Act) → Differ names → names ≡ asked_after names [] made → acts c log ≡ made → key < length names → IsUsed names log key
-used-key names log c key made differ asked same below =
-    used_all names log differ (λ name there. in_log names name c log (subst (IsAskedBy names name) (sym same) (not_before (in_asked_after names [] made name (subst (λ (l : List Name). Contains l name) asked there))))) key below
-  where
-    not_before : {name : Name} → Contains [] name ⊎ IsAskedBy names name made → IsAskedBy names name made
-    not_before (inl h) = absurd (omega (arith, h.1))
-    not_before (inr h) = h
-
 -- where the entries are all of the setup, so are those before one of them
 pub turn_of_own : (front before after : List Entry) (e : Entry) → AreOwn 0 front → front ≡ before ++ e ∷ after → All (λ (b : Entry). b.caller.0 ≡ 0) before
 turn_of_own front before after e own is = All-from_recursion (λ (b : Entry). b.caller.0 ≡ 0) before (start before (e ∷ after) (subst (AreOwn 0) is own))
@@ -188,48 +148,3 @@ key-below t names limit log rules legal before after e is =
     go (Define key site) r f = r.named
     go (WornDef key) r f = r.named
     go (Call q key site args verdict) r f = place-below names r.row.0.name key.0 r.row.0.is
-
--- ── the history ──
-
--- the one script's run makes the history of its program
-pub history-alone : (t : Table) (limit steps : ℕ) (names : List Name) (log : List Entry) (block : NodeId) (r : Told) (run : Run)
-    → t.setup ≡ None → length t.scripts ≡ 1 → block_of t 1 ≡ Some block → IsLegal limit log → Differ names → length names ≤ NAMES_MAX
-    → Grown t 1 names [] names [] log → EachNew (EntersBy 1 []) 1 [] log → AreOwn 1 log
-    → script_run t names (call_in t names 4096) block.0 steps (acts 1 log) ≡ Some run → r ≡ told 1 run
-    → IsHistory t limit steps names log (r ∷ [])
-history-alone t limit steps names log block r run setup scripts runs legal differ few grown entered own reads tells = record {
-  legal = legal;
-  rules = rules;
-  ways = λ before after e is. subst (λ (c : ℕ). EntersBy c [] before e.act) (sym (mine before after e is)) (entered before after e is (before, refl) (mine before after e is));
-  differ = differ;
-  few = few;
-  keys = key-below t names limit log rules legal;
-  used = λ key below. used-key names log 1 key grown.made differ (grown.names names ([], append-nil names)) grown.grows below;
-  callers = λ before after e is. is_some_block (block_of t e.caller.0) block (ap (block_of t) (mine before after e is) ∙ runs);
-  in_turn = λ before after e is none. absurd (let one = mine before after e is in omega (arith, one, none));
-  all_runs = subst (λ (s : Option NodeId). AreAllRuns t names steps log s (r ∷ [])) (sym setup) (one t.scripts scripts);
-}
-  where
-    mine : (before after : List Entry) (e : Entry) → log ≡ before ++ e ∷ after → e.caller.0 ≡ 1
-    mine before after e is = each_at (λ (x : Entry). x.caller.0 ≡ 1) log before after e own is
-
-    rules : Every (λ before e. FitsRules t names e.caller.0 before e.act) log
-    rules before after e is =
-        subst (λ (c : ℕ). FitsRules t names c before e.act) (sym (mine before after e is)) (grown.rules before after e is (before, refl) (mine before after e is))
-
-    one : (scripts : List (NameId × NodeId)) → length scripts ≡ 1 → AreRuns t names steps log (callers_from 1 scripts) (r ∷ [])
-    one [] e = absurd (omega (arith, e))
-    one (s ∷ []) e = (record { block = block; runs = runs; run = run; reads = reads; tells = tells }, tt)
-    one (s ∷ other ∷ ss) e = absurd (omega (arith, e))
-
--- The machine that ran alone to its end tells the run of the one script.
-pub history-ran : (t : Table) (limit steps : ℕ) (names : List Name) (log : List Entry) (block : NodeId) (old new : Machine) (r : ScriptRun)
-    → t.setup ≡ None → length t.scripts ≡ 1 → block_of t 1 ≡ Some block → IsLegal limit log → AreOwn 1 log → RanAlone t names log old new
-    → StandsFor t [] block.0 steps [] old → IsOwnCache t [] [] 1 (Some []) [] old.state.cache → new.caller.0 ≡ 1
-    → ((done : List (ℕ × Act)) → StandsFor t names block.0 steps done new → Finishes t names block.0 steps done new r)
-    → IsHistory t limit steps names log (r ∷ [])
-history-ran t limit steps names log block old new r setup scripts runs legal own ran stands empty first finish =
-    let done = finish ran.goes.made (ran.goes.stands block.0 steps [] stands) in
-    history-alone t limit steps names log block r done.run setup scripts runs legal ran.differ ran.few ran.grown (ran.checks.ways [] empty) own
-    (ap (λ (l : List Act). script_run t names (call_in t names 4096) block.0 steps l) ran.goes.grows ∙ done.reads)
-    (done.tells ∙ ap (λ (c : ℕ). told c done.run) first)

@@ -27,11 +27,3 @@ pub record Went (t : Table) (door later : Fixed) (names known was asked : List N
   pub checks : KeepsChecks t door.caller names known was asked log now old.state.cache new.state.cache
   pub caller : new.caller ≡ old.caller
   pub keeps : keeps new ≡ keeps old
-
--- The machine of the first script went on from nothing: these are its names, and these its entries.
-pub record RanAlone (t : Table) (names : List Name) (log : List Entry) (old new : Machine) : Type 0 where
-  pub goes : GoesOn t 1 [] names [] log old new
-  pub grown : Grown t 1 names [] names [] log
-  pub checks : KeepsChecks t 1 [] names [] names [] log old.state.cache new.state.cache
-  pub few : length names ≤ NAMES_MAX
-  pub differ : Differ names

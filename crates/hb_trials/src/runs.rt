@@ -5,7 +5,7 @@ use hb_eval::script_run::ScriptRun;
 use hb_eval::stop::{Outcome, Stop};
 use hb_eval::value::Value;
 use hb_report::{all_done, report};
-use hb_run::run_alone;
+use hb_turns::run_ordered;
 use hb_tables::entry::VERSIONS_MAX;
 use hb_types::ids::{CallerId, NodeId};
 use std::alloc::Global;
@@ -21,9 +21,8 @@ fn reported(
     versions: u32,
 ) -> Result<String, Fail> {
     let program = read(rt, alloc, text.as_bytes());
-    assert!(rt; program.setup().is_none() && program.scripts() <= 1);
     assert!(rt; 1 <= versions && versions <= VERSIONS_MAX);
-    let runs = run_alone(alloc, &program, steps, versions)?;
+    let runs = run_ordered(alloc, &program, &[], steps, versions)?.runs;
     let report = report(alloc, &program, &runs)?;
     Ok(String::from_utf8(report)?)
 }

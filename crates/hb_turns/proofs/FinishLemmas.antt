@@ -28,14 +28,14 @@ use Rattle.hb_turns.specs.Playing.{IsAt, Plays, Taken, acts_by}
 use Rattle.hb_turns.specs.Players.{AreFinished, AreOver, ArePlayers, FinishesAs, HasRun, IsPlayer}
 
 pub new_plays : (t : Table) (steps c : ℕ) (names : List Name) (log : List Entry) (m : Machine) (block : NodeId) → block_of t c ≡ Some block → m.caller.0 ≡ c → IsFineMachine t m → (m.frames.items ≡ []) × (m.state.made ≡ 0)
-    → StandsFor t names block.0 steps [] m → acts c log ≡ [] → IsOwnCache t names names c log m.state.cache → Plays t steps c names log [] m
+    → StandsFor t names block.0 steps [] m → acts c log ≡ [] → IsOwnCache t names names c (Some (acts c log)) log m.state.cache → Plays t steps c names log [] m
 new_plays t steps c names log m block runs mine fine fresh stands_for idle own = record {
   caller = mine;
   block = block;
   runs = runs;
   fine = fine;
   holding = subst (λ (l : List Framed). Holding c (m.state.made + 1) (frames_of l) log) (sym fresh.0) (holding_empty c (m.state.made + 1) log (λ q. ap (standing q) idle));
-  own = own;
+  own = subst (λ (past : List Act). IsOwnCache t names names c (Some past) log m.state.cache) idle own;
   reads = idle;
   stands = stands_for;
 }
@@ -57,8 +57,8 @@ finish_run t steps c names log done m r p finishes = record {
   block = p.block;
   runs = p.runs;
   run = λ longer more few.
-      let ran = finishes t names longer p.block.0 steps done p.fine p.stands more few in
-      (ran.0, ap (λ (l : List Act). script_run t longer (call_in t longer 4096) p.block.0 steps l) p.reads ∙ ran.1, ran.2 ∙ ap (λ (d : ℕ). told d ran.0) p.caller);
+      let ran = finishes t names longer p.block.0 steps done p.stands more few in
+      (ran.run, ap (λ (l : List Act). script_run t longer (call_in t longer 4096) p.block.0 steps l) p.reads ∙ ran.reads, ran.tells ∙ ap (λ (d : ℕ). told d ran.run) p.caller);
 }
 
 pub run_is : (t : Table) (steps c : ℕ) (names longer : List Name) (old new : List Entry) (r : Told) → HasRun t steps c names old r → IsPrefix names longer → length longer ≤ NAMES_MAX → acts c new ≡ acts c old → IsRunOf t longer steps new c r

@@ -1,5 +1,5 @@
 -- What a turn makes of the history, of the caller that takes it, and of the others.
-use Rattle.std.proofs.Common.{◌≡◌, ◌≢◌, inl, inr, ℕ, ◌+◌, ◌≤◌, List, [], ◌∷◌, ◌++◌, length, map, Some, refl, sym, ap, ◌∙◌, subst, append_assoc, eq-eqb}
+use Rattle.std.proofs.Common.{◌≡◌, ◌≢◌, inl, inr, ℕ, ◌+◌, ◌≤◌, List, [], ◌∷◌, ◌++◌, length, map, Option, Some, refl, sym, ap, ◌∙◌, subst, append_assoc, eq-eqb}
 use Rattle.std.specs.Prelude.{drop}
 use Rattle.std.proofs.lemmas.Bool.Decides.{eqb_tells}
 use Rattle.std.proofs.lemmas.List.{append-nil, append_cancel_left, map-append}
@@ -15,11 +15,12 @@ use Rattle.hb_tables.specs.Frames.{acts}
 use Rattle.hb_tables.specs.History.{Every, IsLegal}
 use Rattle.hb_tables.specs.Plain.{AreOwn}
 use Rattle.hb_tables.proofs.FrameLemmas.{acts_append}
-use Rattle.hb_call.specs.Growth.{Grown, Grows, asked_after}
+use Rattle.hb_call.specs.Growth.{EachNew, Grown, Grows, asked_after}
 use Rattle.hb_call.specs.GrowthLaws.{asked_append, prefix_itself, prefix_more, rules_longer}
-use Rattle.hb_call.specs.OwnCache.{IsOwnCache}
+use Rattle.hb_cache.specs.declared.kept.Kept.{Kept}
+use Rattle.hb_call.specs.OwnCache.{IsOwnCache, KeepsChecks}
 use Rattle.hb_call.specs.OwnLaws.{own_grows, own_named}
-use Rattle.hb_call.specs.Rules.{FitsRules}
+use Rattle.hb_call.specs.Rules.{EntersBy, FitsRules}
 use Rattle.hb_eval.specs.declared.machine.Machine.{Machine}
 use Rattle.hb_eval.specs.Holding.{Holding, frames_of}
 use Rattle.hb_eval.specs.Machines.{IsFineMachine, StandsFor}
@@ -79,7 +80,7 @@ plays_on t steps c d came names longer old new done m apart is more p = record {
   runs = p.runs;
   fine = p.fine;
   holding = holding_waits d (m.state.made + 1) (frames_of m.frames.items) old new p.holding same (entries_by c came, is.is);
-  own = own_named t names longer names longer d new m.state.cache more more (own_grows t names names names names d old new m.state.cache quiet (prefix_itself names) tt p.own);
+  own = own_named t names longer names longer d (Some []) new m.state.cache more more (own_grows t names names names names d (Some []) old new m.state.cache quiet (prefix_itself names) tt p.own);
   reads = same ∙ p.reads;
   stands = stands_longer t names longer p.block.0 steps done m more p.stands;
 }
@@ -97,11 +98,11 @@ untagged n [] = refl
 untagged n (a ∷ l) = ap (λ x. a ∷ x) (untagged n l)
 
 pub plays_turn : (t : Table) (steps c begun : ℕ) (came : List Act) (names longer : List Name) (old new : List Entry) (done : List (ℕ × Act)) (was now : Machine) → Plays t steps c names old done was → Came c came old new
-    → IsFineMachine t now → Holding c (now.state.made + 1) (frames_of now.frames.items) new → IsOwnCache t longer longer c new now.state.cache → now.caller ≡ was.caller
+    → IsFineMachine t now → Holding c (now.state.made + 1) (frames_of now.frames.items) new → KeepsChecks t c names longer names longer old new was.state.cache now.state.cache → now.caller ≡ was.caller
     → ((block steps : ℕ) (done : List (ℕ × Act)) → StandsFor t names block steps done was
     → (more : List Act) × (acts c new ≡ acts c old ++ more) × StandsFor t longer block steps (done ++ tagged begun more) now)
     → Plays t steps c longer new (done ++ tagged begun came) now
-plays_turn t steps c begun came names longer old new done was now p is fine holding own caller turn =
+plays_turn t steps c begun came names longer old new done was now p is fine holding checks caller turn =
     let made = turn p.block.0 steps done p.stands in
     let same : made.0 ≡ came = append_cancel_left (acts c old) made.0 came (sym made.1 ∙ came_acts c came old new is) in
     record {
@@ -110,7 +111,7 @@ plays_turn t steps c begun came names longer old new done was now p is fine hold
       runs = p.runs;
       fine = fine;
       holding = holding;
-      own = own;
+      own = checks.own (Some []) p.own;
       reads = came_acts c came old new is ∙ ap (λ (l : List Act). l ++ came) p.reads ∙ ap (λ (l : List Act). map (λ (e : ℕ × Act). e.1) done ++ l) (sym (untagged begun came)) ∙ sym (map-append (λ (e : ℕ × Act). e.1) done (tagged begun came));
       stands = subst (λ (l : List Act). StandsFor t longer p.block.0 steps (done ++ tagged begun l) now) same made.2;
     }
@@ -139,12 +140,14 @@ own_came c more old new own came = subst (AreOwn c) came.is (own_join c old (ent
 
 pub under_way_on : (t : Table) (limit c : ℕ) (more : List Act) (names longer : List Name) (old new : List Entry) (block : NodeId) → IsUnderWay t limit names old
     → IsLegal limit new → Came c more old new → IsPrefix names longer → (length names ≤ NAMES_MAX → length longer ≤ NAMES_MAX) → (Differ names → Differ longer)
-    → Grown t c longer names longer old new → block_of t c ≡ Some block → (c ≡ 0 → AreOwn 0 old)
+    → Grown t c longer names longer old new → EachNew (EntersBy c []) c old new → block_of t c ≡ Some block → (c ≡ 0 → AreOwn 0 old)
     → IsUnderWay t limit longer new
-under_way_on t limit c more names longer old new block u legal came on few differ grown runs alone = record {
+under_way_on t limit c more names longer old new block u legal came on few differ grown entered runs alone = record {
   legal = legal;
   rules = every_on (λ before e. FitsRules t longer e.caller.0 before e.act) c more old new (λ before after e is. rules_longer t names longer e.caller.0 before e.act on (u.rules before after e is)) came
       (λ before after e is from own. subst (λ (d : ℕ). FitsRules t longer d before e.act) (sym own) (grown.rules before after e is from own));
+  ways = every_on (λ before e. EntersBy e.caller.0 [] before e.act) c more old new u.ways came
+      (λ before after e is from own. subst (λ (d : ℕ). EntersBy d [] before e.act) (sym own) (entered before after e is from own));
   callers = every_on (λ before e. HasCaller t e) c more old new u.callers came (λ before after e is from own. is_some_block (block_of t e.caller.0) block (ap (block_of t) own ∙ runs));
   in_turn = every_on IsInTurn c more old new u.in_turn came
       (λ before after e is from own zero. turn_of_own new before after e (let none : c ≡ 0 = sym own ∙ zero in subst (λ (d : ℕ). AreOwn d new) none (own_came c more old new (subst (λ (d : ℕ). AreOwn d old) (sym none) (alone none)) came)) is);
@@ -173,18 +176,24 @@ came_through c old new kept own = (map (λ (e : Entry). e.act) kept.0, record { 
     gone [] ys = refl
     gone (x ∷ xs) ys = gone xs ys
 
+-- what is kept of checks through it
+checks_here : (t : Table) (c : ℕ) (names longer : List Name) (old new : List Entry) (d : ℕ) (front : List Entry) (cache left : List (Option Kept)) → d ≡ c → front ≡ old
+    → KeepsChecks t d names longer names longer front new cache left → KeepsChecks t c names longer names longer old new cache left
+checks_here t c names longer old new d front cache left mine there checks =
+    subst (λ (x : ℕ). KeepsChecks t x names longer names longer old new cache left) mine (subst (λ (l : List Entry). KeepsChecks t d names longer names longer l new cache left) there checks)
+
 pub took_door : (t : Table) (c : ℕ) (names longer : List Name) (old new : List Entry) (was now : Machine) (d : ℕ) (front : List Entry) → d ≡ c → front ≡ old → (came : (more : List Act) × Came c more old new)
-    → IsFineMachine t now → Holding d (now.state.made + 1) (frames_of now.frames.items) new → IsOwnCache t longer longer d new now.state.cache → now.caller ≡ was.caller
+    → IsFineMachine t now → Holding d (now.state.made + 1) (frames_of now.frames.items) new → KeepsChecks t d names longer names longer front new was.state.cache now.state.cache → now.caller ≡ was.caller
     → ((block steps : ℕ) (done : List (ℕ × Act)) → StandsFor t names block steps done was
     → (more : List Act) × (acts d new ≡ acts d front ++ more) × StandsFor t longer block steps (done ++ tagged now.state.begun more) now)
     → Took t c names longer old new was now
-took_door t c names longer old new was now d front mine there came fine holding own caller turn = record {
+took_door t c names longer old new was now d front mine there came fine holding checks caller turn = record {
   more = came.0;
   came = came.1;
   plays = λ steps done p.
       plays_turn t steps c now.state.begun came.0 names longer old new done was now p came.1 fine
       (subst (λ (x : ℕ). Holding x (now.state.made + 1) (frames_of now.frames.items) new) mine holding)
-      (subst (λ (x : ℕ). IsOwnCache t longer longer x new now.state.cache) mine own) caller
+      (checks_here t c names longer old new d front was.state.cache now.state.cache mine there checks) caller
       (subst (λ (x : ℕ). Turning x old) mine (subst (Turning d) there turn));
 }
   where
@@ -192,10 +201,11 @@ took_door t c names longer old new was now d front mine there came fine holding 
     Turning x log = (block steps : ℕ) (done : List (ℕ × Act)) → StandsFor t names block steps done was
         → (more : List Act) × (acts x new ≡ acts x log ++ more) × StandsFor t longer block steps (done ++ tagged now.state.begun more) now
 
-pub under_way_door : (t : Table) (limit c : ℕ) (names longer : List Name) (old new : List Entry) (block : NodeId) (d : ℕ) (front : List Entry) → d ≡ c → front ≡ old → IsUnderWay t limit names old
+pub under_way_door : (t : Table) (limit c : ℕ) (names longer : List Name) (old new : List Entry) (block : NodeId) (cache left : List (Option Kept)) (d : ℕ) (front : List Entry) → d ≡ c → front ≡ old → IsUnderWay t limit names old
     → IsLegal limit new → (came : (more : List Act) × Came c more old new) → IsPrefix names longer → (length names ≤ NAMES_MAX → length longer ≤ NAMES_MAX) → (Differ names → Differ longer)
-    → Grown t d longer names longer front new → block_of t c ≡ Some block → (c ≡ 0 → AreOwn 0 old)
+    → Grown t d longer names longer front new → IsOwnCache t names names c (Some []) old cache → KeepsChecks t d names longer names longer front new cache left → block_of t c ≡ Some block → (c ≡ 0 → AreOwn 0 old)
     → IsUnderWay t limit longer new
-under_way_door t limit c names longer old new block d front mine there u legal came more few differ grown runs alone =
+under_way_door t limit c names longer old new block cache left d front mine there u legal came more few differ grown own checks runs alone =
     under_way_on t limit c came.0 names longer old new block u legal came.1 more few differ
-    (subst (λ (x : ℕ). Grown t x longer names longer old new) mine (subst (λ (l : List Entry). Grown t d longer names longer l new) there grown)) runs alone
+    (subst (λ (x : ℕ). Grown t x longer names longer old new) mine (subst (λ (l : List Entry). Grown t d longer names longer l new) there grown))
+    ((checks_here t c names longer old new d front cache left mine there checks).ways [] own) runs alone

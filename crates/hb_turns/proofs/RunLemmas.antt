@@ -58,7 +58,7 @@ scripts_ran t limit steps order names mid longer old between new first ps qs was
       is = h.is;
       numbers = h.numbers;
       in_order = order_ends order t.scripts g.turns qs over g.in_order;
-      tagged = tagged_are t steps 1 longer new g.turns t.scripts qs (many ∙ sym g.many) h.under_way.few over h.players;
+      tagged = tagged_are t steps 1 longer new g.turns t.scripts qs more (many ∙ sym g.many) h.under_way.few over h.players finished;
       under_way = h.under_way;
       named = g.named;
       setup = h.setup (omega arith);
@@ -76,6 +76,7 @@ pub history_of_turns : (t : Table) (limit steps : ℕ) (names : List Name) (log 
 history_of_turns t limit steps names log rs u runs = record {
   legal = u.legal;
   rules = u.rules;
+  ways = u.ways;
   differ = u.differ;
   few = u.few;
   keys = key-below t names limit log u.rules u.legal;
@@ -93,6 +94,7 @@ pub nothing_under_way : (t : Table) (limit : ℕ) → IsUnderWay t limit [] []
 nothing_under_way t limit = record {
   legal = λ before after e is. absurd (none before after e is);
   rules = λ before after e is. absurd (none before after e is);
+  ways = λ before after e is. absurd (none before after e is);
   callers = λ before after e is. absurd (none before after e is);
   in_turn = λ before after e is. absurd (none before after e is);
   differ = λ i j name x y. absurd (empty i x);

@@ -3,7 +3,6 @@ use Rattle.std.specs.Prelude.{◌≡◌, ◌⊎◌, ℕ, zero, suc, ◌+◌, ◌
 use mathlib.Core.List.{IsPrefix}
 use Rattle.hb_types.specs.declared.ids.NodeId.{NodeId}
 use Rattle.hb_tree.specs.Table.{Table}
-use Rattle.hb_tree.specs.TreeAt.{tree_at}
 use Rattle.hb_names.specs.declared.names.TheConstants.{NAMES_MAX}
 use Rattle.hb_names.specs.Names.{Name}
 use Rattle.hb_tables.specs.declared.entry.Act.{Act}
@@ -13,10 +12,8 @@ use Rattle.hb_tables.specs.Plain.{AreOwn}
 use Rattle.hb_call.specs.Growth.{asked_after}
 use Rattle.hb_eval.specs.Calls.{call_in}
 use Rattle.hb_eval.specs.declared.machine.Machine.{Machine}
-use Rattle.hb_eval.specs.Machines.{IsFineMachine, StandsFor}
-use Rattle.hb_eval.specs.Meaning.{ev}
-use Rattle.hb_eval.specs.State.{Answer, Lost, Done, Halt}
-use Rattle.hb_eval.specs.Runs.{Run, script_run, start}
+use Rattle.hb_eval.specs.Machines.{Finishes, StandsFor}
+use Rattle.hb_eval.specs.Runs.{Run, script_run}
 use Rattle.hb_eval.specs.Told.{Told, told, told_by}
 use Rattle.hb_eval.specs.declared.script_run.ScriptRun.{ScriptRun}
 use Rattle.hb_run.specs.History.{AreRuns, IsHistory, block_of, callers_from}
@@ -128,8 +125,8 @@ weight_at (p ∷ ps) (suc at) = weight_at ps at
 
 -- This is what an ended machine's run came to, whatever run the machine stands for.
 abbrev pub FinishesAs : Machine → ScriptRun → Type 0
-FinishesAs m r = (t : Table) (known names : List Name) (block steps : ℕ) (done : List (ℕ × Act)) → IsFineMachine t m → StandsFor t known block steps done m → IsPrefix known names → length names ≤ NAMES_MAX
-    → (run : Run) × (script_run t names (call_in t names 4096) block steps (map (λ e. e.1) done) ≡ Some run) × (told_by r ≡ told m.caller.0 run)
+FinishesAs m r = (t : Table) (known names : List Name) (block steps : ℕ) (done : List (ℕ × Act)) → StandsFor t known block steps done m → IsPrefix known names → length names ≤ NAMES_MAX
+    → Finishes t names block steps done m r
 
 -- these are the runs of the players' machines, in their order
 abbrev pub AreFinished : List Player → List ScriptRun → Type 0
@@ -144,12 +141,6 @@ pub record HasRun (t : Table) (steps c : ℕ) (names : List Name) (log : List En
   pub run : (longer : List Name) → IsPrefix names longer → length longer ≤ NAMES_MAX
       → (run : Run) × (script_run t longer (call_in t longer 4096) block.0 steps (acts c log) ≡ Some run) × (r ≡ told c run)
 
--- how many expressions began, up to this answer
-abbrev pub begun_of : Answer → ℕ
-begun_of Lost = 0
-begun_of (Done v s) = s.begun
-begun_of (Halt e id s) = s.begun
-
 -- in so many turns a run ends: one for each beginning, and one where nothing begins
 abbrev pub turns_for : (begun : ℕ) → ℕ
 turns_for zero = 1
@@ -161,7 +152,7 @@ pub record IsTagged (t : Table) (names : List Name) (steps : ℕ) (log : List En
   pub runs : block_of t c ≡ Some block
   pub run : Run
   pub reads : script_run t names (call_in t names 4096) block.0 steps (acts c log) ≡ Some run
-  pub many : turns_by c us ≡ turns_for (begun_of (ev t names (call_in t names 4096) (tree_at t block.0) (start steps (acts c log))))
+  pub many : turns_by c us ≡ turns_for run.begun
   pub acts : run.acts ≡ acts_by c us
 
 abbrev pub AreTagged : Table → List Name → (steps : ℕ) → List Entry → List Taken → List ℕ → Type 0

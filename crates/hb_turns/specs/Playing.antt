@@ -11,7 +11,7 @@ use Rattle.hb_tables.specs.Frames.{acts}
 use Rattle.hb_tables.specs.History.{entry, Every, IsLegal}
 use Rattle.hb_call.specs.Growth.{asked_after}
 use Rattle.hb_call.specs.OwnCache.{IsOwnCache}
-use Rattle.hb_call.specs.Rules.{FitsRules}
+use Rattle.hb_call.specs.Rules.{EntersBy, FitsRules}
 use Rattle.hb_eval.specs.declared.machine.Machine.{Machine}
 use Rattle.hb_eval.specs.Holding.{Holding, frames_of}
 use Rattle.hb_eval.specs.Machines.{HasEnded, IsFineMachine, IsGoing, StandsFor}
@@ -25,7 +25,7 @@ pub record Plays (t : Table) (steps c : ℕ) (names : List Name) (log : List Ent
   pub runs : block_of t c ≡ Some block
   pub fine : IsFineMachine t m
   pub holding : Holding c (m.state.made + 1) (frames_of m.frames.items) log
-  pub own : IsOwnCache t names names c log m.state.cache
+  pub own : IsOwnCache t names names c (Some []) log m.state.cache
   pub reads : acts c log ≡ map (λ e. e.1) done
   pub stands : StandsFor t names block.0 steps done m
 
@@ -33,6 +33,7 @@ pub record Plays (t : Table) (steps c : ℕ) (names : List Name) (log : List Ent
 pub record IsUnderWay (t : Table) (limit : ℕ) (names : List Name) (log : List Entry) : Type 0 where
   pub legal : IsLegal limit log
   pub rules : Every (λ before e. FitsRules t names e.caller.0 before e.act) log
+  pub ways : Every (λ before e. EntersBy e.caller.0 [] before e.act) log
   pub callers : Every (λ before e. HasCaller t e) log
   pub in_turn : Every IsInTurn log
   pub differ : Differ names

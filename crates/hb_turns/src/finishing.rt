@@ -27,7 +27,7 @@ pub fn new_players(alloc: Global, prog: &Program, steps: u32) -> Result<Vec<Play
     let mut at = 0;
     while at < count {
         let (_, block) = prog.script(at);
-        let machine = Machine::new(alloc, CallerId(1 + at as u8), block, steps)?;
+        let machine = Machine::new(alloc, CallerId(1 + at as u8), block, steps, false)?;
         players.push(Player {
             machine,
             over: false,

@@ -97,7 +97,7 @@ fn run_setup(
     ensures own { OnOk result (AreOwn 0 tables.new.log) }
     ensures limit { OnOk result (tables.new.limit ≡ tables.old.limit) }
 {
-    let mut machine = Machine::new(alloc, CallerId(0), block, steps)?;
+    let mut machine = Machine::new(alloc, CallerId(0), block, steps, false)?;
     play_alone(alloc, prog, &mut machine, tables, names)?;
     Ok(machine.finish())
 }

@@ -3,6 +3,7 @@ use Rattle.std.specs.Option.{option_map}
 use Rattle.hb_types.specs.declared.ids.CallerId.{CallerId}
 use Rattle.hb_types.specs.declared.ids.NodeId.{NodeId}
 use Rattle.hb_types.specs.declared.ids.NameId.{NameId}
+use Rattle.hb_tables.specs.Frames.{acts}
 use Rattle.hb_call.specs.OwnCache.{IsOwnCache}
 use Rattle.hb_run.specs.History.{block_of}
 use Rattle.hb_turns.specs.declared.player.Player.{Player}
@@ -30,7 +31,7 @@ loop-at-preserved c =
           let mine : c.in_ok-machine.machine.caller.0 ≡ suc c.loop-at.at = ap (λ (x : CallerId). x.0) came.fresh.2 ∙ number in
           let plays = new_plays t c.args.steps (suc c.loop-at.at) names log c.in_ok-machine.machine c.script.result.1 runs mine
           (came.fine t c.script.ensures.block) (came.fresh.0, came.fresh.1) (came.stands t names c.script.ensures.block) none
-          (subst (λ (d : ℕ). IsOwnCache t names names d log c.in_ok-machine.machine.state.cache) number (came.own t names names log (idle (1 + c.loop-at.at) (omega arith)))) in
+          (subst (λ (d : ℕ). IsOwnCache t names names d (Some (acts d log)) log c.in_ok-machine.machine.state.cache) number (came.own t names names log)) in
           let one : IsPlayer t c.args.steps (suc c.loop-at.at) names log [] p = record { plays = plays; at = came.going; numbered = came.fresh.3 } in
           subst (ArePlayers t c.args.steps 1 names log []) (sym items)
           (players_push t c.args.steps 1 names log [] c.loop-at.players.items p (inv.2 names log idle) (subst (λ (d : ℕ). IsPlayer t c.args.steps d names log [] p) (sym here) one)),
