@@ -7,8 +7,11 @@ import sys
 from pathlib import Path
 
 import pages
+import release
 import report
 import show
+import streams
+from streams import say
 
 HELP = """\
 hb runs programs of hbird from files, and shows where and why one stopped.
@@ -17,11 +20,13 @@ hb runs programs of hbird from files, and shows where and why one stopped.
   hb --json FILE..     gives each report as a JSON object on a line of its own
   hb explain [WORD]    explains a word of a report; without a word, lists all
   hb help              this page
+  hb --version         the version
 
 Programs to try stand in examples/, and docs/LANGUAGE.md teaches the language.
 Other options, as --NAME=VALUE, are handed to hbird. The status is that of
 hbird, and of several files the first that is not 0. Colours come only on a
-terminal, and never where NO_COLOR is set. HBIRD names another program to run.
+terminal, and never where NO_COLOR or INSIDE_EMACS says something, or TERM says
+dumb. HBIRD names another program to run.
 
 Statuses
 """
@@ -35,17 +40,13 @@ STATUSES = [
     (5, "a write failed"),
     (6, "a script stopped"),
     (7, "the process could not get its words"),
-    (70, "the program is not built and cannot be, or hb finds no Python"),
+    (70, "there is no program that runs here, or hb finds no Python"),
 ]
 WRONG_WORDS, READ_FAILED, WRITE_FAILED, NOT_BUILT = 2, 4, 5, 70
 
 LAUNCHER = Path(__file__).resolve().parent.parent / "hbird"
 # The program reads at most one byte more than a text may have, so no more is read for it.
 MOST = 1048577
-
-
-def say(message):
-    print("hb: " + message, file=sys.stderr)
 
 
 def write(lines):
@@ -55,7 +56,8 @@ def write(lines):
 
 
 def help_text():
-    return HELP.splitlines() + ["  %-4d %s" % row for row in STATUSES]
+    told = "This is hbird %s. Its docs/ and examples/ stand in %s." % (release.version(), release.papers())
+    return HELP.splitlines() + ["  %-4d %s" % row for row in STATUSES] + ["", told]
 
 
 def explain(word):
@@ -86,13 +88,20 @@ def read(name):
         return None
 
 
+def needed():
+    return "it does not run on this machine, since it needs " + release.needs()
+
+
 def run(text, options):
     """What the program writes on a text, and its status. What it says on standard error goes on to ours."""
     program = os.environ.get("HBIRD") or str(LAUNCHER)
     try:
         done = subprocess.run([program, "run", *options], input=text, stdout=subprocess.PIPE)
     except OSError as error:
-        say("%s: %s" % (program, error.strerror))
+        say("%s: %s" % (program, needed() if release.is_foreign(program, error) else error.strerror))
+        return b"", NOT_BUILT
+    if release.did_not_start(done.returncode, done.stdout):
+        say("%s: %s" % (program, needed()))
         return b"", NOT_BUILT
     if done.returncode < 0:
         say("the program was ended by signal %d" % -done.returncode)
@@ -119,6 +128,9 @@ def main(words):
     if words[:1] in (["help"], ["--help"], ["-h"]):
         write(help_text())
         return 0
+    if words[:1] == ["--version"]:
+        write(["hbird " + release.version()])
+        return 0
     if words[:1] == ["explain"]:
         return explain(" ".join(words[1:]))
     ends = words.index("--") if "--" in words else len(words)
@@ -128,7 +140,7 @@ def main(words):
         say("no file is named; hb help tells what hb does")
         return WRONG_WORDS
     as_json = "--json" in options
-    paint = show.Paint(sys.stdout.isatty() and "NO_COLOR" not in os.environ)
+    paint = show.Paint(streams.wants_colours())
     status = 0
     for number, name in enumerate(files):
         if len(files) > 1 and not as_json:
@@ -140,6 +152,7 @@ def main(words):
 
 def guarded(words):
     """Runs main, and ends without a trace where the output cannot be written or the user breaks off."""
+    streams.hold()
     try:
         status = main(words)
         sys.stdout.flush()
@@ -149,8 +162,7 @@ def guarded(words):
     except OSError as error:
         if not isinstance(error, BrokenPipeError):
             say("the output cannot be written: %s" % error.strerror)
-        # What is still to be written has nowhere to go.
-        os.dup2(os.open(os.devnull, os.O_WRONLY), 1)
+        streams.drop(1)
         return WRITE_FAILED
 
 

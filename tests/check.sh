@@ -1,17 +1,18 @@
 #!/usr/bin/env bash
-# What no proof says: the examples through the built program, its edges, the launcher, hb, the editors and the papers.
-# It builds nothing. A part whose tool is missing is skipped, and one line says so.
+# What no proof says: the examples through the program, its edges, the launcher, hb, make, the editors and the papers.
+# It builds nothing, and needs no prover. A part whose tool is missing is skipped, and one line says so.
 #
 #     tests/check.sh [PROGRAM]
+#
+# Without a word it tries the program that the launcher would run.
 set -euo pipefail
 cd "$(dirname "$0")/.."
 
-built=crates/hbird/out/hbird
-program=${1:-$built}
 room=$(mktemp -d)
-trap 'rm -rf "$room"' EXIT
+trap 'kill $(jobs -p) 2>/dev/null || true; rm -rf "$room"' EXIT
 passed=0
 failed=0
+parts=()
 
 # Notes how one check came out: its name, and the command that decides.
 check() {
@@ -33,40 +34,90 @@ has() {
     command -v "$1" >/dev/null
 }
 
+# Runs some checks beside the others, in a room of their own.
+part() {
+    local at=$room/${#parts[@]}
+    mkdir "$at"
+    echo "$*" >"$at/words"
+    parts+=("$at")
+    run_part "$at" "$@" >"$at/said" 2>&1 &
+}
+
+run_part() {
+    room=$1
+    shift
+    "$@"
+    echo "$passed $failed" >"$room/counts"
+}
+
+# Shows what the parts said, in their order, and counts their checks.
+end_parts() {
+    local at more lost
+    wait
+    for at in "${parts[@]}"; do
+        cat "$at/said"
+        if [[ -f $at/counts ]]; then
+            read -r more lost <"$at/counts"
+        else
+            more=0 lost=1
+            echo "check: FAILED: it broke off: $(<"$at/words")"
+        fi
+        passed=$((passed + more)) failed=$((failed + lost))
+    done
+}
+
+# shellcheck source=release/program.sh
+. release/program.sh
 # shellcheck source=tests/edges.sh
 . tests/edges.sh
+# shellcheck source=tests/launcher.sh
+. tests/launcher.sh
+# shellcheck source=tests/release.sh
+. tests/release.sh
+# shellcheck source=tests/gate.sh
+. tests/gate.sh
 # shellcheck source=tests/surface.sh
 . tests/surface.sh
 
 check_program() {
-    check_edges
+    copy_repository
+    part check_edges
+    part check_launcher
+    part check_release
+    part check_gate
     if has python3; then
-        check "the faults of texts" python3 tests/faults.py "$program"
-        check "the examples and the recordings" python3 tests/examples.py "$program"
-        check "the programs of docs/ERRORS.md" python3 tests/errors.py "$program"
+        part check "the faults of texts" python3 tests/faults.py "$program"
+        part check "the examples and the recordings" python3 tests/examples.py "$program"
+        part check "the programs of docs/ERRORS.md" python3 tests/errors.py "$program"
     fi
 }
 
 check_front() {
-    check "hb" python3 tests/front.py
-    check "the editors" python3 tests/editors.py
-    check "the papers" python3 tests/papers.py
-    check_completion
+    part check "hb" python3 tests/front.py
+    part check "the streams of hb" python3 tests/streams.py
+    part check "the editors" python3 tests/editors.py
+    part check "the papers" python3 tests/papers.py
+    part check_completion
 }
 
+if [[ $# -gt 0 ]]; then
+    program=$1
+elif ! find_program; then
+    program=
+fi
 if [[ -x $program ]]; then
     check_program
 else
-    skip "the program is not built: ./hbird builds it"
+    skip "there is no program that is of these sources: ./hbird builds it"
 fi
 if has python3; then
     check_front
 else
     skip "python3 is not installed: faults, examples, hb, editors, papers, completion"
 fi
-check_launcher
-check_scripts
-check_manual
-check_leftovers
+part check_scripts
+part check_manual
+part check_leftovers
+end_parts
 echo "check: $passed passed, $failed failed"
 [[ $failed == 0 ]]

@@ -1,4 +1,4 @@
-# The program's edges and the launcher. tests/check.sh reads this file.
+# The program's edges. tests/check.sh reads this file.
 # shellcheck shell=bash disable=SC2154
 
 # One row for each way in which the outside may differ: its name, the status, the text, and a command.
@@ -23,29 +23,4 @@ one word too many|2|words refused|"$PROGRAM" run run <examples/hello.hb
 a text as long as may be|0||head -c 1048576 /dev/zero | tr '\0' ' ' | "$PROGRAM" run
 a text one byte longer|1|text TooLong|head -c 1048577 /dev/zero | tr '\0' ' ' | "$PROGRAM" run
 ROWS
-}
-
-# Without the kit and with nothing built, the launcher says so in one line.
-is_told_without_kit() {
-    local status=0 bash
-    bash=$(command -v bash)
-    mkdir -p "$room/bare/bin"
-    cp hbird "$room/bare/hbird"
-    ln -s "$(command -v readlink)" "$(command -v dirname)" "$room/bare/bin"
-    PATH=$room/bare/bin "$bash" "$room/bare/hbird" run </dev/null >"$room/wrote" 2>"$room/told" || status=$?
-    [[ $status == 70 && ! -s $room/wrote && $(wc -l <"$room/told") -eq 1 ]]
-}
-
-# From another folder the launcher hands on words, input, output and status.
-is_launched_from_elsewhere() {
-    local status=0 here=$PWD
-    (cd / && "$here/hbird" run <"$here/examples/stops/no_type.hb") >"$room/wrote" || status=$?
-    [[ $status == 6 ]] && cmp examples/stops/no_type.out "$room/wrote"
-}
-
-check_launcher() {
-    check "the launcher without the kit" is_told_without_kit
-    if [[ -x $built ]]; then
-        check "the launcher from another folder" is_launched_from_elsewhere
-    fi
 }

@@ -8,7 +8,6 @@ files named in the rows stand in FILES.
 """
 import json
 import os
-import pty
 import shutil
 import subprocess
 import sys
@@ -177,6 +176,9 @@ def try_json(room):
 def try_pages(room):
     out, _, status = room.run("help")
     room.expect("hb help", (out.splitlines()[0][:8], "\nStatuses\n" in out, status), ("hb runs ", True, 0))
+    version = (ROOT / "VERSION").read_text().strip()
+    room.expect("the version in hb help", " hbird %s. " % version in out, True)
+    room.expect("hb --version", room.run("--version"), ("hbird %s\n" % version, "", 0))
     for words, parts in (("illtyped", ["IllTyped\n", "stop IllTyped 7:13 Operand 6:44"]),
                          ("Unbound", ["stop Unbound", "stop IllTyped"]),
                          ("expected", ["Words: Expected end, Expected then"]), ("'Expected )'", ["Expected )\n"]),
@@ -185,28 +187,33 @@ def try_pages(room):
         room.expect("hb explain " + words, ([part for part in parts if part not in out], status), ([], 0))
 
 
-def on_terminal(room, **more):
-    """What hb writes to a terminal on a stop."""
-    env = dict(os.environ, HBIRD=str(room.program), WRITES="stop NilValue 3:7\ndone\n", ENDS="6", **more)
-    env = {name: value for name, value in env.items() if name != "NO_COLOR" or "NO_COLOR" in more}
-    ours, theirs = pty.openpty()
-    subprocess.run([HB, "a.hb"], cwd=room.folder, env=env, stdout=theirs, stdin=subprocess.DEVNULL, timeout=60)
-    os.close(theirs)
-    return os.read(ours, 65536).decode()
-
-
 def try_output(room):
-    room.expect("colours on a terminal", on_terminal(room).count("\x1b[1;31m"), 2)
-    room.expect("no colours with NO_COLOR", on_terminal(room, NO_COLOR="1").count("\x1b"), 0)
-    _, says, status = room.run("a.hb > /dev/full", REPORT)
-    room.expect("a full device", (says, status), ("hb: the output cannot be written: No space left on device\n", 5))
     _, says, status = room.run("a.hb; } | true; exit ${PIPESTATUS[0]}", REPORT, hb="{ sleep 0.3; " + HB)
     room.expect("a pipe that nobody reads", (says, status), ("", 5))
     _, says, status = room.run("a.hb", HBIRD="/nosuch")
     room.expect("no program", (says, status), ("hb: /nosuch: No such file or directory\n", 70))
+    try_foreign(room)
     room.executable("killed", "#!/bin/sh\nkill -9 $$\n")
     _, says, status = room.run("a.hb", HBIRD=str(room.folder / "killed"))
     room.expect("a killed program", (says, status), ("hb: the program was ended by signal 9\n", 137))
+
+
+# Programs that do not run on this machine: what stands for each.
+FOREIGN = [
+    ("a program for another processor", "\x7fELF and no more"),
+    ("a program whose loader is not there", "#!/nosuch/loader\n"),
+    ("a processor that lacks an instruction", "#!/bin/sh\nkill -ILL $$\n"),
+    ("a C library that is too old", "#!/bin/sh\nexit 1\n"),
+    ("a program that finds its processor too old", "#!/bin/sh\nexit 127\n"),
+]
+
+
+def try_foreign(room):
+    for name, text in FOREIGN:
+        program = str(room.executable("foreign", text))
+        out, says, status = room.run("a.hb", HBIRD=program)
+        due = "hb: %s: it does not run on this machine, since it needs Linux on an x86-64-v2 processor," % program
+        room.expect(name, (out, says[:len(due)], says.count("\n"), status), ("", due, 1, 70))
 
 
 def try_without_python(room):
@@ -220,12 +227,14 @@ def try_without_python(room):
 def try_building(room):
     """In a checkout where nothing is built, and with a kit that builds at once."""
     checkout = room.folder / "checkout"
-    shutil.copytree(ROOT / "front", checkout / "front")
+    for folder in ("front", "release"):
+        shutil.copytree(ROOT / folder, checkout / folder)
     (checkout / "docs").mkdir()
     for file in ("hb", "hbird", "crates.txt", "docs/ERRORS.md"):
         shutil.copy(ROOT / file, checkout / file)
     (checkout / "crates/hbird").mkdir(parents=True)
-    room.executable("kit/rt", "#!/bin/sh\nmkdir -p out && cp '%s' out/hbird\necho rt: running it >&2\n" % room.program)
+    made = room.executable("made", "#!/bin/sh\n[ $(wc -c) = 0 ] || printf '%s' \"$WRITES\"\n")
+    room.executable("kit/rt", "#!/bin/sh\nmkdir -p out && cp '%s' out/hbird\necho rt: running it >&2\n" % made)
     path = "%s:%s" % (room.folder / "kit", os.environ["PATH"])
     for name, says_first in (("a first run builds", "hbird: building the program;"), ("a second one does not", "")):
         out, says, status = room.run("a.hb | cat", REPORT, hb=str(checkout / "hb"), HBIRD="", PATH=path)

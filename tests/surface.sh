@@ -4,11 +4,11 @@
 check_scripts() {
     local script
     check "sh -n hb" sh -n hb
-    for script in hbird .ci/run tests/*.sh completion/hbird.bash; do
+    for script in hbird .ci/run release/*.sh tests/*.sh completion/hbird.bash; do
         check "bash -n $script" bash -n "$script"
     done
     if has shellcheck; then
-        check "shellcheck" shellcheck -x hb hbird .ci/run tests/check.sh completion/hbird.bash
+        check "shellcheck" shellcheck -x hb hbird .ci/run release/*.sh tests/check.sh completion/hbird.bash
     else
         skip "shellcheck is not installed"
     fi

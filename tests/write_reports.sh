@@ -4,5 +4,5 @@
 #     tests/write_reports.sh [PROGRAM]
 set -euo pipefail
 cd "$(dirname "$0")/.."
-python3 tests/examples.py --write "${1:-crates/hbird/out/hbird}"
+python3 tests/examples.py --write "${1:-hbird}"
 python3 tests/papers.py --write
