@@ -1,37 +1,59 @@
 # Completion of hb and hbird for bash: source this file.
 
-# Completes what was typed to those lines of the input that begin with it.
+# Completes what was typed to those lines of the input that begin with it; to all of these where capitals are all one.
 _hb_reply() {
-    local typed=$1 line
+    local line
     while IFS= read -r line; do
-        [[ $line != "$typed"* ]] || COMPREPLY+=("$line")
+        [[ $line != "$1"* ]] || COMPREPLY+=("$line")
     done
 }
 
-# The first parts of the words of a report, or the second parts of those with this first one.
-_hb_words() {
-    if [[ -z $2 ]]; then
-        "$1" explain 2>/dev/null | cut -d ' ' -f 1 | sort -u
-    else
-        "$1" explain 2>/dev/null | sed -n "s/^$2 //p"
-    fi
+_hb_reply_anyhow() {
+    local line
+    while IFS= read -r line; do
+        [[ ${line,,} != "${1,,}"* ]] || COMPREPLY+=("$line")
+    done
 }
 
-# Programs, and folders on the way to them.
+# The words of a report that may stand behind this one, with marks that the shell would read quoted: all first parts,
+# or the second parts of a word that has some.
+_hb_words() {
+    local all
+    all=$("$1" explain --words 2>/dev/null)
+    if [[ ${2,,} == expected || ${2,,} == toomany ]]; then
+        grep -i "^$2 " <<<"$all" | cut -d ' ' -f 2
+    else
+        cut -d ' ' -f 1 <<<"$all" | sort -u
+    fi | while IFS= read -r word; do printf '%q\n' "$word"; done
+}
+
+# Completes to programs, and to folders on the way to them. As names of files they are quoted, and a folder gets its
+# slash; the words above would get one too where a folder is called so.
 _hb_files() {
-    compgen -f -X '!*.hb' -- "$1"
-    compgen -d -- "$1"
+    local typed=${1#[\"\']} file before=${#COMPREPLY[@]}
+    typed=${typed//\\/}
+    while IFS= read -r file; do
+        [[ ${file##*/} == .* && ${typed##*/} != .* ]] || COMPREPLY+=("$file")
+    done < <(compgen -f -X '!*.hb' -- "$typed"; compgen -d -- "$typed")
+    [[ ${#COMPREPLY[@]} == "$before" ]] || compopt -o filenames 2>/dev/null
 }
 
 _hb() {
-    local typed=${COMP_WORDS[COMP_CWORD]}
+    local typed=${COMP_WORDS[COMP_CWORD]} command="" option=--json
     COMPREPLY=()
-    case $COMP_CWORD:${COMP_WORDS[1]} in
-        2:explain) _hb_reply "$typed" < <(_hb_words "$1" "") ;;
-        3:explain) _hb_reply "$typed" < <(_hb_words "$1" "${COMP_WORDS[2]}") ;;
-        *:explain | 2:help) ;;
-        1:*) _hb_reply "$typed" < <(printf '%s\n' explain help --json; _hb_files "$typed") ;;
-        *) _hb_reply "$typed" < <(_hb_files "$typed") ;;
+    ((COMP_CWORD == 1)) || command=${COMP_WORDS[1]}
+    [[ $command != fmt ]] || option=--check
+    case $command in
+        explain) _hb_reply_anyhow "$typed" < <(_hb_words "$1" "${COMP_WORDS[COMP_CWORD - 1]}") ;;
+        help | lsp | new) ;;
+        *)
+            if [[ $typed == -* && " ${COMP_WORDS[*]:1:COMP_CWORD-1} " != *" -- "* ]]; then
+                _hb_reply "$typed" <<<"$option"
+            else
+                [[ -n $command ]] || _hb_reply "$typed" < <(printf '%s\n' run watch new fmt lsp explain help)
+                _hb_files "$typed"
+            fi
+            ;;
     esac
 }
 
@@ -40,6 +62,5 @@ _hbird() {
     ((COMP_CWORD > 1)) || _hb_reply "${COMP_WORDS[1]}" <<<run
 }
 
-# As names of files, the words are quoted for the shell, and a folder gets its slash.
-complete -o filenames -F _hb hb
+complete -F _hb hb
 complete -F _hbird hbird

@@ -1,11 +1,13 @@
 """hb: runs hbird on files, and shows where and why a program stopped."""
 import difflib
+import importlib
 import json
 import os
 import subprocess
 import sys
 from pathlib import Path
 
+import command
 import pages
 import release
 import report
@@ -16,9 +18,14 @@ from streams import say
 HELP = """\
 hb runs programs of hbird from files, and shows where and why one stopped.
 
-  hb FILE..            runs each program; the file - is the standard input
+  hb [run] FILE..      runs each program; the file - is the standard input
   hb --json FILE..     gives each report as a JSON object on a line of its own
-  hb explain [WORD]    explains a word of a report; without a word, lists all
+  hb watch FILE        runs it again on each save
+  hb new NAME          writes a first program, and never over a file
+  hb fmt FILE..        indents programs by their blocks
+  hb fmt --check ..    writes nothing, and ends with 1 where it would change one
+  hb lsp               is a server for editors, as editors/README.md tells
+  hb explain [WORD..]  explains words of a report; without a word, lists all
   hb help              this page
   hb --version         the version
 
@@ -42,7 +49,7 @@ STATUSES = [
     (7, "the process could not get its words"),
     (70, "there is no program that runs here, or hb finds no Python"),
 ]
-WRONG_WORDS, READ_FAILED, WRITE_FAILED, NOT_BUILT = 2, 4, 5, 70
+WRONG_WORDS, READ_FAILED, WRITE_FAILED, STOPPED, NOT_BUILT = 2, 4, 5, 6, 70
 
 LAUNCHER = Path(__file__).resolve().parent.parent / "hbird"
 # The program reads at most one byte more than a text may have, so no more is read for it.
@@ -60,16 +67,17 @@ def help_text():
     return HELP.splitlines() + ["  %-4d %s" % row for row in STATUSES] + ["", told]
 
 
-def explain(word):
-    """Explains one word, or lists all where none is given."""
-    if not word:
-        write(pages.words())
+def explain(words):
+    """Explains words of a report, or lists all where none is given; `--words` lists the bare words."""
+    if not words or words == ["--words"]:
+        write(pages.words() if words else pages.overview())
         return 0
-    found = pages.explained(word)
-    if not found:
-        near = difflib.get_close_matches(word.lower(), [known.lower() for known in pages.words()], 1)
+    found, unknown = pages.explained(words)
+    if unknown is not None:
+        near = difflib.get_close_matches(unknown.lower(), [known.lower() for known in pages.words()], 1)
         likely = [known for known in pages.words() if known.lower() in near]
-        say("nothing is known of %s; %s" % (word, "is it %s?" % likely[0] if likely else "hb explain lists all words"))
+        more = "is it %s?" % likely[0] if likely else "hb explain lists all words"
+        say("nothing is known of %s; %s" % (unknown, more))
         return WRONG_WORDS
     for number, section in enumerate(found):
         write(([""] if number else []) + pages.as_text(section))
@@ -109,18 +117,25 @@ def run(text, options):
     return done.stdout, done.returncode
 
 
+def lines_of(out):
+    """The lines of an output, as text; the last one has no line feed."""
+    return out.decode("utf-8", "surrogateescape").split("\n")
+
+
 def run_file(name, options, as_json, paint):
     """Runs one file and shows the report. Gives the status."""
     text = read(name)
     out, status = (b"", READ_FAILED) if text is None else run(text, options)
-    lines = out.decode("utf-8", "surrogateescape").split("\n")
+    lines = lines_of(out)
     cut = lines.pop()
     if as_json:
         write([json.dumps(report.as_object(name, status, lines + [cut] * bool(cut)))])
     elif text is not None:
-        write(row for line in lines for row in show.shown(line, name, text, paint))
+        write(row for line in lines
+              for row in show.shown(line, name, text, paint, lambda part: lines_of(run(part, options)[0])))
         # A last line without an end is not whole, and no line of a report.
         sys.stdout.buffer.write(cut.encode("utf-8", "surrogateescape"))
+        write(show.remarked(text, paint) if status in (0, STOPPED) and not cut else [])
     return status
 
 
@@ -132,22 +147,40 @@ def main(words):
         write(["hbird " + release.version()])
         return 0
     if words[:1] == ["explain"]:
-        return explain(" ".join(words[1:]))
-    ends = words.index("--") if "--" in words else len(words)
-    options = [word for word in words[:ends] if word.startswith("-") and word != "-"]
-    files = [word for word in words[:ends] if word not in options] + words[ends + 1:]
-    if not files:
-        say("no file is named; hb help tells what hb does")
+        return explain(words[1:])
+    if words[:1] == ["watch"]:
+        return importlib.import_module("watch").main(words[1:], say, main)
+    if words[:1] in (["new"], ["fmt"], ["lsp"]):
+        return importlib.import_module(words[0]).main(words[1:], say)
+    return run_files(words[1:] if words[:1] == ["run"] else words)
+
+
+def run_files(words):
+    options, files = command.parted(words)
+    fault = command.fault(options, files)
+    if fault:
+        say(fault)
         return WRONG_WORDS
+    handed = [option for option in options if option != "--json"]
     as_json = "--json" in options
     paint = show.Paint(streams.wants_colours())
     status = 0
     for number, name in enumerate(files):
         if len(files) > 1 and not as_json:
             write([""] * bool(number) + [paint("file", "==> %s <==" % name)])
-        ended = run_file(name, [option for option in options if option != "--json"], as_json, paint)
+        ended = run_file(name, handed, as_json, paint)
         status = status or ended
+        if ended == WRONG_WORDS and handed:
+            name_refused(handed)
+            break
     return status
+
+
+def name_refused(options):
+    """Names the options that the program refuses each for itself, as on the empty text; else all of them."""
+    alone = [option for option in options if run(b"", [option])[1] == WRONG_WORDS]
+    for option in alone or options:
+        say(command.of_option(option, ["--json"]))
 
 
 def guarded(words):

@@ -2,9 +2,19 @@
 import re
 import shlex
 import unicodedata
+from typing import NamedTuple, Optional
 
 import pages
 import report
+
+
+class Mark(NamedTuple):
+    """What stands below a place, and its colour."""
+
+    place: Optional[tuple]
+    label: str
+    kind: str
+
 
 # Of a longer line only so much is shown, around the place.
 WIDEST = 100
@@ -13,7 +23,7 @@ WIDEST = 100
 class Paint:
     """Colours, where they are wanted."""
 
-    CODES = {"bad": "1;31", "good": "32", "dim": "34", "file": "1"}
+    CODES = {"bad": "1;31", "good": "32", "dim": "34", "file": "1", "also": "36"}
 
     def __init__(self, wanted):
         self.wanted = wanted
@@ -22,14 +32,29 @@ class Paint:
         return "\x1b[%sm%s\x1b[0m" % (self.CODES[kind], text) if self.wanted else text
 
 
-def shown(line, name, source, paint):
+def shown(line, name, source, paint, run=None):
     """The lines that stand for one line of the program's: itself where nothing of it is known."""
     notes = report.notes_of(line)
     if line == "done":
         return [paint("good", line)]
     if not notes:
         return [line]
-    return [headline(line, name, paint)] + excerpt(notes, source, paint) + meaning(notes, paint)
+    # What a run without a fault does not need is not read for it.
+    import advice
+    more = advice.of(source, line, run)
+    marks = [Mark(note.place, "^ " + note.word if number else "^", "bad") for number, note in enumerate(notes)]
+    marks += [Mark((place.line, place.column), "^ " + place.label, "also") for place in more.places]
+    return [headline(line, name, paint)] + excerpt(marks, source, paint) + meaning(notes, more.hints, paint)
+
+
+def remarked(source, paint):
+    """What is worth a remark in a text that runs: a `#{x}` in it, and nothing else."""
+    if b"#{" not in source:
+        return []
+    import advice
+    more = advice.remarks(source)
+    marks = [Mark((place.line, place.column), "^ " + place.label, "also") for place in more.places]
+    return excerpt(marks, source, paint) + hinted(more.hints, paint)
 
 
 def headline(line, name, paint):
@@ -39,19 +64,17 @@ def headline(line, name, paint):
     return paint("bad", "%s %s" % (first, word)) + named
 
 
-def excerpt(notes, source, paint):
+def excerpt(marks, source, paint):
     """The source lines of the places, each with a mark below the place."""
     lines = source.split(b"\n")
-    places = [note for note in notes if note.place and 1 <= note.place[0] <= len(lines)]
-    width = max((len(str(note.place[0])) for note in places), default=0)
+    marks = [mark for mark in marks if mark.place and 1 <= mark.place[0] <= len(lines)]
+    width = max((len(str(mark.place[0])) for mark in marks), default=0)
     found, last = [], None
-    for note in places:
-        number, column = note.place
+    for (number, column), label, kind in marks:
         text, before = window(lines[number - 1], column)
         if number != last:
             found.append(paint("dim", "  %*d |" % (width, number)) + (" " + text).rstrip())
-        mark = "^" if note is notes[0] else "^ " + note.word
-        found.append(paint("dim", "  %*s |" % (width, "")) + " " * (before + 1) + paint("bad", mark))
+        found.append(paint("dim", "  %*s |" % (width, "")) + " " * (before + 1) + paint(kind, label))
         last = number
     return found
 
@@ -80,9 +103,13 @@ def columns(letter):
     return 2 if unicodedata.east_asian_width(letter) in "WF" else 1
 
 
-def meaning(notes, paint):
-    """The first sentence on each word, and how to read on."""
+def meaning(notes, hints, paint):
+    """The first sentence on each word, the hints, and how to read on."""
     known = [(note.word, pages.sentence_of(note)) for note in notes]
     lines = ["  %s: %s" % (paint("file", word), sentence) for word, sentence in known if sentence]
-    more = ", ".join("hb explain " + " ".join(map(shlex.quote, word.split())) for word, sentence in known if sentence)
-    return lines + ["  " + paint("dim", "(%s)" % more)] if more else lines
+    more = " ".join(shlex.quote(part) for word, sentence in known if sentence for part in word.split())
+    return lines + hinted(hints, paint) + (["  " + paint("dim", "(hb explain %s)" % more)] if more else [])
+
+
+def hinted(hints, paint):
+    return ["  %s: %s" % (paint("also", "hint"), hint) for hint in hints]

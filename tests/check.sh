@@ -89,13 +89,18 @@ check_program() {
         part check "the faults of texts" python3 tests/faults.py "$program"
         part check "the examples and the recordings" python3 tests/examples.py "$program"
         part check "the programs of docs/ERRORS.md" python3 tests/errors.py "$program"
+        part check "hints" python3 tests/hints.py "$program"
     fi
 }
 
 check_front() {
     part check "hb" python3 tests/front.py
     part check "the streams of hb" python3 tests/streams.py
+    part check "the commands of hb" python3 tests/commands.py "$program"
+    part check "hb fmt" python3 tests/fmt.py "$program"
+    part check "hb lsp" python3 tests/lsp.py "$program"
     part check "the editors" python3 tests/editors.py
+    part check "the editors, driven" python3 tests/driven.py
     part check "the papers" python3 tests/papers.py
     part check_completion
 }

@@ -39,11 +39,21 @@ GROUPS = {
                    number="constant.numeric.hbird", **{"class": "entity.name.class.hbird"}),
 }
 
-# What hb writes, and the places to which an editor goes: file, line, column.
+# What hb writes, and the places to which an editor goes: file, line, column. Where a body is ill typed, the first one
+# is the call's.
 TOLD = ["==> a.hb <==", "script main", "> stop Busy b.hb:7:7", "stop NilValue a.hb:5:14", "  5 | x.m", "    |   ^",
         "calls 1 own 0 shared 0 fresh 1", "text Expected end a.hb:2:12", "text NotYet",
-        "stop IllTyped a.hb:9:13 Result a.hb:6:18"]
-CALL, PLACES = ("a.hb", 9, 13), [("a.hb", 5, 14), ("a.hb", 2, 12), ("a.hb", 6, 18)]
+        "stop IllTyped a.hb:9:13 Result a.hb:6:18", "stop Busy my a.hb:5:6", "text TooMany calls my a.hb:2:1",
+        "text BadByte my a.hb:2:3", "text Expected ) my a.hb:2:4", "stop IllTyped my a.hb:9:13 NoType my a.hb:6:18"]
+PLACES = [("a.hb", 5, 14), ("a.hb", 2, 12), ("a.hb", 9, 13), ("a.hb", 6, 18), ("my a.hb", 5, 6), ("my a.hb", 2, 1),
+          ("my a.hb", 2, 3), ("my a.hb", 2, 4), ("my a.hb", 9, 13), ("my a.hb", 6, 18)]
+CALLS = [("a.hb", 9, 13), ("my a.hb", 9, 13)]
+
+# Lines behind which VS Code indents the next one, and lines behind which it does not.
+INDENTS = ["if x then", 'if x == "a" then', 'x = "#" ++ if a then', "while i < 3 do # turns", "else", "  else",
+           "def A.m(x)", "def A.m(x) y", "x = if a then b", "x.m(", 'print x.m("(",', "x = 1 +", "print", '"a" ++ # on']
+STAYS = ["script main", "x", 'x = "if a then"', "# if a then", "x = 1 # +", 'print "def A.m("', "if a then b end",
+         'if a then "b" else c end', "def A.m(x) x end", "while a do end", "x.m(1)", '"a +"', "end", "end_of + x"]
 
 
 def tokens(line):
@@ -71,7 +81,7 @@ def in_vim(folder, *commands):
     script = folder / "commands.vim"
     script.write_text("\n".join(commands) + "\nqall!\n")
     return run("vim", "-e", "-s", "-N", "-u", "NONE", "-i", "NONE", "--cmd", "set runtimepath^=%s" % (EDITORS / "vim"),
-               "--cmd", "filetype plugin on", "--cmd", "syntax on", "-S", str(script))
+               "--cmd", "filetype plugin indent on", "--cmd", "syntax on", "-S", str(script))
 
 
 def try_vim(folder):
@@ -126,7 +136,7 @@ def try_emacs(folder):
         lines = [line.split() + ["nil"] for line in in_emacs(EMACS_GROUPS, [file]).split("\n")]
         yield from wrong_groups("emacs", file, [line for line in lines if line[0] != "Warning:"])
     places = re.findall(r"^(.*):(\d+):(\d+)$", in_emacs(EMACS_PLACES, TOLD), re.M)
-    if [(file, int(line), int(column)) for file, line, column in places] != PLACES[:2] + [CALL] + PLACES[2:]:
+    if [(file, int(line), int(column)) for file, line, column in places] != PLACES:
         yield "emacs: the places are %s" % places
 
 
@@ -157,8 +167,30 @@ def try_vscode(folder):
     pattern = package["problemMatchers"][0]["pattern"]
     found = [match for match in (re.search(pattern["regexp"], line) for line in TOLD) if match]
     places = [(match[pattern["file"]], int(match[pattern["line"]]), int(match[pattern["column"]])) for match in found]
-    if places != PLACES:
+    # It takes one place from a line, which is the one in the body.
+    if places != [place for place in PLACES if place not in CALLS]:
         yield "vscode: the places are %s" % places
+    yield from vscode_indents()
+
+
+def vscode_indents():
+    """The rules see a line alone, so letter.hb, where a line goes on and a `def` ends behind it, is left out."""
+    rules = json.loads((EDITORS / "vscode/language-configuration.json").read_text())["indentationRules"]
+    increases, decreases, goes_on = [re.compile(rules[name]).search for name in (
+        "increaseIndentPattern", "decreaseIndentPattern", "indentNextLinePattern")]
+    for line in INDENTS + STAYS:
+        if bool(increases(line) or goes_on(line)) != (line in INDENTS):
+            yield "vscode: what comes behind %r is %sindented" % (line, "not " * (line in INDENTS))
+    for file in EXAMPLES:
+        lines = [line for line in file.read_text().splitlines() if line]
+        for before, line in zip(lines, lines[1:]):
+            step = 2 * bool(increases(before) or goes_on(before)) - 2 * bool(decreases(line))
+            if file.name != "letter.hb" and blanks(line) != max(0, blanks(before) + step):
+                yield "vscode: %s: %r is indented by %d" % (file.name, line, blanks(before) + step)
+
+
+def blanks(line):
+    return len(line) - len(line.lstrip(" "))
 
 
 def main():

@@ -4,7 +4,8 @@
 
 A section has a wrong program, the line that is printed, the mended program,
 and what that prints where it prints a little. In place of a program a command
-of the shell may stand, which writes it.
+of the shell may stand, which writes it. The words of every report have a
+program for all of them, with its report.
 """
 import subprocess
 import sys
@@ -20,8 +21,9 @@ WORDS += ["Expected " + word for word in "end then do ) expression name type cla
 WORDS += ["TooMany " + word for word in
           "classes scripts nodes types body calls variables parameters arguments".split()]
 
-# No program within the limits of a run comes to these.
-WITHOUT_PROGRAM = ["Worn"]
+# These share a program, and to the last one no program comes within the limits of a run.
+OF_EACH_REPORT = "script done stop text calls own shared fresh".split()
+WITHOUT_PROGRAM = OF_EACH_REPORT + ["Worn"]
 SHAPE = ["program", "text", "program"]
 
 
@@ -58,14 +60,26 @@ def wrongs(program, section):
         yield "the mended program writes %r" % lines
 
 
+def wrong_report(program, section):
+    """What is wrong with the report that the first part shows."""
+    text, report = section.blocks
+    lines, status = run(program, text)
+    if (lines, status) != (report.text.splitlines(), 0):
+        yield "%r came" % lines
+
+
 def main():
-    words = [section for section in sections(ROOT / "docs/ERRORS.md") if section.depth == 3]
-    told = [(section.title, message) for section in words
+    all_sections = sections(ROOT / "docs/ERRORS.md")
+    words = [section for section in all_sections if section.depth == 3]
+    told = [(section.title, message) for section in all_sections if section.title == "The report"
+            for message in wrong_report(sys.argv[1], section)]
+    told += [(section.title, message) for section in words
             if section.blocks or section.title not in WITHOUT_PROGRAM
             for message in wrongs(sys.argv[1], section)]
     titles = [section.title for section in words]
-    if sorted(titles) != sorted(WORDS):
-        told.append(("the sections", "without one, or with one too many: %s" % sorted(set(titles) ^ set(WORDS))))
+    due = WORDS + OF_EACH_REPORT
+    if sorted(titles) != sorted(due):
+        told.append(("the sections", "without one, or with one too many: %s" % sorted(set(titles) ^ set(due))))
     for title, message in told:
         print("docs/ERRORS.md: %s: %s" % (title, message))
     print("%d sections, %d wrong" % (len(words), len(told)))

@@ -61,7 +61,7 @@ stop IllTyped one_line.hb:1:62 Unbound one_line.hb:1:50
     |                                                  ^ Unbound
   IllTyped: The method's body was checked at this call, and breaks a rule of types.
   Unbound: The body uses a variable that may have no value here.
-  (hb explain IllTyped, hb explain Unbound)
+  (hb explain IllTyped Unbound)
 """, 6, ""),
     ("a.hb", "text Expected ) 5:1\n", 1, """\
 text Expected ) a.hb:5:1
@@ -92,7 +92,7 @@ text Newer tab.hb:2:17
 stop Unbound my file.hb:2:1
   2 | x
     | ^
-  Unbound: The variable has no value by now.
+  Unbound: The variable has no value yet.
   (hb explain Unbound)
 """, 6, ""),
     # words
@@ -106,7 +106,7 @@ stop Unbound my file.hb:2:1
     ("", "", 0, "", 2, "hb: no file is named; hb help tells what hb does\n"),
     ("--json", "", 0, "", 2, "hb: no file is named"),
     ("explain bussy", "", 0, "", 2, "hb: nothing is known of bussy; is it Busy?\n"),
-    ("explain qqqq", "", 0, "", 2, "hb: nothing is known of qqqq; hb explain lists all words\n"),
+    ("explain Busy qqqq", "", 0, "", 2, "hb: nothing is known of qqqq; hb explain lists all words\n"),
 ]
 
 OBJECTS = [
@@ -182,9 +182,14 @@ def try_pages(room):
     for words, parts in (("illtyped", ["IllTyped\n", "stop IllTyped 7:13 Operand 6:44"]),
                          ("Unbound", ["stop Unbound", "stop IllTyped"]),
                          ("expected", ["Words: Expected end, Expected then"]), ("'Expected )'", ["Expected )\n"]),
-                         ("", ["BadByte\n", "TooMany calls\n", "Worn\n"])):
+                         ("IllTyped Operand", ["stop IllTyped 7:13", "stop IllTyped 5:13 Operand"]),
+                         ("own expected end", ["own\n", "Expected end\n"]),
+                         ("", ["\nStops\n\n  NilValue            An operator", "  done                The script ran"]),
+                         ("--words", ["BadByte\n", "TooMany calls\n", "Worn\n", "\nown\n"])):
         out, _, status = room.run("explain " + words)
         room.expect("hb explain " + words, ([part for part in parts if part not in out], status), ([], 0))
+    out, _, status = room.run("explain IllTyped Unbound")
+    room.expect("a reason behind IllTyped", ("stop Unbound" in out, status), (False, 0))
 
 
 def try_output(room):

@@ -11,6 +11,9 @@ import sys
 
 from markdown import FENCE, ROOT, anchors, sections
 
+sys.path.insert(0, str(ROOT / "front"))
+import command  # noqa: E402
+
 PAPERS = sorted([*ROOT.glob("*.md"), *ROOT.glob("*/*.md")])
 EDITORS = ["vim/syntax/hbird.vim", "emacs/hbird-mode.el", "vscode/syntaxes/hbird.tmLanguage.json"]
 
@@ -69,6 +72,20 @@ def editors_know_all_words():
                     yield "editors/%s: the %s %s is not there" % (file, kind, word)
 
 
+def commands_are_everywhere():
+    """Each command of hb stands in its help, in the page of the manual, and in the completion of both shells."""
+    told = subprocess.run([ROOT / "hb", "help"], stdout=subprocess.PIPE, check=True).stdout.decode()
+    page = (ROOT / "man/hbird.1").read_text()
+    for name in command.COMMANDS:
+        if not re.search(r"(?m)^  hb \[?%s\b" % name, told):
+            yield "hb help: the command %s is not there" % name
+        if not re.search(r'(?m)^\.BI? "?hb %s\b' % name, page):
+            yield "man/hbird.1: the command %s is not there" % name
+        for file in ("hbird.bash", "_hb"):
+            if not re.search(r"\b%s\b" % name, (ROOT / "completion" / file).read_text()):
+                yield "completion/%s: the command %s is not there" % (file, name)
+
+
 def write(paper):
     """Gives each block that names a file that file's text."""
     lines, kept, skips = paper.read_text().splitlines(keepends=True), [], False
@@ -89,7 +106,7 @@ def main():
             write(paper)
         for rule in (blocks_are_files, links_lead_somewhere, examples_are_listed):
             wrong += ["%s: %s" % (paper.relative_to(ROOT), message) for message in rule(paper)]
-    wrong += [*tables_are_one(), *editors_know_all_words()]
+    wrong += [*tables_are_one(), *editors_know_all_words(), *commands_are_everywhere()]
     for message in wrong:
         print(message)
     print("%d papers, %d wrong" % (len(PAPERS), len(wrong)))

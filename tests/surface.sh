@@ -28,35 +28,10 @@ check_manual() {
     done
 }
 
-# What bash offers behind these words.
-offers() {
-    # shellcheck disable=SC2016
-    bash -c '. completion/hbird.bash; COMP_WORDS=("$@"); COMP_CWORD=$(($# - 1)); "_$1" "./$1"; echo "${COMPREPLY[*]}"' - "$@"
-}
-
-# One row for each place in a command: what is offered, and the words so far with a | between them.
 check_completion() {
-    local due typed words
-    while IFS='=' read -r due typed; do
-        IFS='|' read -ra words <<<"$typed|-"
-        unset 'words[-1]'
-        check "completion of $typed" [ "$(offers "${words[@]}")" = "$due" ]
-    done <<'ROWS'
-explain examples=hb|ex
---json=hb|--
-examples/hello.hb=hb|examples/he
-examples/hello.hb=hb|--json|examples/he
-Overflow=hb|explain|Over
-classes calls=hb|explain|TooMany|c
-=hb|explain|Overflow|
-=hb|help|
-run=hbird|
-=hbird|run|
-ROWS
+    check "completion" python3 tests/shells.py
     if has zsh; then
         check "zsh -n completion/_hb" zsh -n completion/_hb
-    else
-        skip "zsh is not installed"
     fi
 }
 
