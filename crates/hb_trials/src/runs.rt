@@ -406,6 +406,7 @@ fn told(alloc: Global, caller: u8, outcome: Outcome, own: u32, shared: u32) -> S
         own,
         shared,
         fresh: 1,
+        journal: None,
     }
 }
 
