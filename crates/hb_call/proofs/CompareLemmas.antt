@@ -90,8 +90,11 @@ module _ (g : Given) (known asked : List Name) (log : List Entry) (held : List K
 
   -- a key that is held has the count that is kept
   same_count : times (g.door.caller, g.q.0) (spot s.key.0 log).calls ≡ 1 → (spot s.key.0 log).changes ≡ s.changes
-  same_count one = elim (h.only s.key.0 one) [ inl e ↦ own e | inr among ↦ among_count kept g.t known log
-      (g.door.caller, g.q.0) s.key.0 s.changes kept.derivation.uses.items kept.counts.items i check.once (once_at kept kept.counts.items i s check.once there) h.answered among ]
+  same_count one = elim (h.only s.key.0 one) [
+    | inl e ↦ own e
+    | inr among ↦ among_count kept g.t known log
+        (g.door.caller, g.q.0) s.key.0 s.changes kept.derivation.uses.items kept.counts.items i check.once (once_at kept kept.counts.items i s check.once there) h.answered among
+  ]
     where
       own : s.key.0 ≡ g.key.0 → (spot s.key.0 log).changes ≡ s.changes
       own e =

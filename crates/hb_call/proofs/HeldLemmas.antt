@@ -87,7 +87,7 @@ pub free_next : (c : ℕ) (q : CallNo) (keys : List KeyId) (i : ℕ) (d : KeyId)
     → acts c old ++ frees q (drop i keys) ≡ all → acts c new ++ frees q (drop (i + 1) keys) ≡ all
 free_next c q keys i d old new all h adds e =
     ap (λ w. w ++ frees q (drop (i + 1) keys)) (adds_act c old new (Free q (get_or keys i d)) adds) ∙ append_assoc (acts c old) (Free q (get_or keys i d) ∷ []) (frees q (drop (i + 1) keys))
-        ∙ ap (λ w. acts c old ++ w) (sym (frees_drop q keys i d h)) ∙ e
+    ∙ ap (λ w. acts c old ++ w) (sym (frees_drop q keys i d h)) ∙ e
 
 pub all_stand : (c : ℕ) (q : CallNo) (keys : List KeyId) (log : List Entry) → Holds c q.0 keys log → MayFree keys (stands c q.0 log)
 all_stand c q keys log h = may_free [] (stands c q.0 log) keys h.keys h.once h.below

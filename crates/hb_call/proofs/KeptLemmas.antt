@@ -174,7 +174,7 @@ module _ (g : Given) (kept : Kept) (h : IsUsable g kept) (args : TakesArgs g) wh
       let p = parts g.t g.class.0 (slice_get g.t.bodies kept.derivation.body.0) (type_declared g.t g.own.ty) h.good.subject subject_is in
       ap (λ (b : Option Body). looks_of g.t T g.class.0 b (type_declared g.t g.own.ty) (kinds_of g.args)) p.has_body ∙ ap (λ (n : Option MethodTy). looks_of g.t T g.class.0 (Some p.body) n (kinds_of g.args)) p.has_type
       ∙ ap (λ (b : Bool). if b then looks T (subject g.t g.class.0 p.body p.declared) else [])
-          (fits_type args.ty p.declared (kinds_of g.args) (type_declared g.t g.own.ty) own_type p.has_type args.fits) ∙ ap (looks T) p.is
+      (fits_type args.ty p.declared (kinds_of g.args) (type_declared g.t g.own.ty) own_type p.has_type args.fits) ∙ ap (looks T) p.is
 
   -- answers that follow the uses are the next looks
   pub kept_next : (answers : List Answer) → Follows g.t kept.derivation.uses.items answers → AreNext g (Some kept.derivation.body) answers

@@ -140,7 +140,7 @@ module _ (limit c q : ℕ) where
       by true e =
           let same : c ≡ d = eqb-true c d e in
           subst (λ (x : ℕ). IsLegal limit (log ++ entry x a ∷ []) → ((l : List Act) → acts c (entry x a ∷ []) ≡ l → standing_from q (stands c q log) l ≡ stands c q (log ++ entry x a ∷ []))
-              → AllByRecursion (IsStill (log ++ entry x a ∷ [])) (stands c q (log ++ entry x a ∷ []))) same
+          → AllByRecursion (IsStill (log ++ entry x a ∷ [])) (stands c q (log ++ entry x a ∷ []))) same
           (λ legal after. subst (λ (hs : List Stand). AllByRecursion (IsStill (log ++ entry c a ∷ [])) hs) (after (a ∷ []) (acts_one c a)) (still_done log (stands c q log) a legal few all)) legal after
       by false e =
           let none = acts_other c d a e in

@@ -32,5 +32,5 @@ pub room_free : (c : ℕ) (q : CallNo) (key : KeyId) (old new : List Entry) → 
 room_free c q key old new adds room =
     subst (λ w. HasRoom w c q.0) (sym adds.1) (room_more c q.0 (old ++ adds.0) (Free q key)
     (λ s r. let a = ap length (own_without c q.0 s.calls) in let b = length_without (c, q.0) (of_caller c s.calls) in let d = times_own c q.0 s.calls in let z = none_without (c, q.0) s.calls in
-        omega (arith, r, a, b, d, z))
+    omega (arith, r, a, b, d, z))
     (room_learns c q.0 old adds.0 adds.2 room))

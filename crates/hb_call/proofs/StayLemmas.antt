@@ -30,9 +30,12 @@ type_stays limit c q old rest legal k keeps found h =
 pub answers_stay : (t : Table) (names known : List Name) (limit c q : ℕ) (old rest : List Entry) (answers : List Answer) → IsPrefix names known → IsLegal limit (old ++ rest)
     → ((k : ℕ) → KeepsHold q k (acts c rest)) → AreTrue t names old (c, q) answers → AreTrue t known (old ++ rest) (c, q) answers
 answers_stay t names known limit c q old rest [] longer legal keeps h = tt
-answers_stay t names known limit c q old rest (a ∷ answers) longer legal keeps h =
-    (place-longer names known (name_of t (a.class.0, a.name.0)) a.key.0 longer h.0, type_stays limit c q old rest legal a.key.0
-        (keeps a.key.0) a.held h.1, answers_stay t names known limit c q old rest answers longer legal keeps h.2)
+answers_stay t names known limit c q old rest (a ∷ answers) longer legal keeps h = (
+  place-longer names known (name_of t (a.class.0, a.name.0)) a.key.0 longer h.0,
+  type_stays limit c q old rest legal a.key.0
+      (keeps a.key.0) a.held h.1,
+  answers_stay t names known limit c q old rest answers longer legal keeps h.2,
+)
 
 pub keeps_none : (c q k : ℕ) (between : List Entry) → journal c between ≡ [] → KeepsHold q k (acts c between)
 keeps_none c q k between none = subst (KeepsHold q k) (sym (acts_none c between none)) tt

@@ -47,28 +47,3 @@ impl Share {
         }
     }
 }
-
-#[cfg(test)]
-mod tests {
-    use super::*;
-    use hb_types::ids::{BodySite, ClassId, TypeSite};
-    use std::test::Fail;
-
-    #[test]
-    fn the_first_ones_are_collected(rt: HostRuntime) -> Result<(), Fail> {
-        let derivation = Derivation {
-            class: ClassId(0),
-            body: BodySite(1),
-            declared: TypeSite(2),
-            uses: Vec::new(rt.alloc()),
-            steps: Vec::new(rt.alloc()),
-        };
-        let mut share = Share::Collect(Vec::new(rt.alloc()));
-        for _ in 0..COLLECTED_MAX + 1 {
-            let copy = share.copy_for(rt.alloc(), &derivation)?;
-            share.take(copy)?;
-        }
-        assert!(rt; matches!(&share, Share::Collect(made) if made.len() == COLLECTED_MAX));
-        Ok(())
-    }
-}

@@ -151,8 +151,8 @@ looped w c b old new m move fine test starts flat is =
     rw is (record {
       same = λ ks fs read journal.
           ap (λ (x : Bool). resume w ks (reverse old.operands.items) fs
-              (if x then Done value.Nil (st_of old read journal) else then_do (meaning w (room fs) b.0 (st_of old read journal))
-              (λ x s. loop (meaning w (room fs) c.0) (meaning w (room fs) b.0) s))) test
+          (if x then Done value.Nil (st_of old read journal) else then_do (meaning w (room fs) b.0 (st_of old read journal))
+          (λ x s. loop (meaning w (room fs) c.0) (meaning w (room fs) b.0) s))) test
           ∙ starts.same (cont.Turn c b ∷ ks) fs read journal
           ∙ ap (λ (u : Option Cont). stands w (onto m.push (onto u (cont.Turn c b ∷ ks))) fs m.hand new read journal) flat;
       keeps = record {

@@ -122,8 +122,12 @@ pushed_goes t n pending frames old mid new_frames new move ops a pushed is nil g
       entered = g.entered;
       based = λ b. g.based (record { top = b.top; below = b.below });
       known = λ h. g.known (record {
-        state = record { acc = nil; operands = subst (AllByRecursion (IsKnown t)) (sym pushed) (each_append (IsKnown t) old.operands.items (old.acc ∷ []) h.state.operands (h.state.acc, tt));
-            vars = h.state.vars; class = h.state.class };
+        state = record {
+          acc = nil;
+          operands = subst (AllByRecursion (IsKnown t)) (sym pushed) (each_append (IsKnown t) old.operands.items (old.acc ∷ []) h.state.operands (h.state.acc, tt));
+          vars = h.state.vars;
+          class = h.state.class;
+        };
         callers = h.callers;
       });
     }
@@ -147,9 +151,9 @@ bindings_known t (x ∷ params) (v ∷ vs) all = (all.0, bindings_known t params
 pub body_goes : (t : Table) (f : Frame) (cl : ClassId) (b : Body) (at base : ℕ) (frames new_frames : List Framed) (old new : State) (ops : Vec Value Global) (vars : Vec (NameId × Value) Global) (m move : Move)
     → at < length old.operands.items → base ≡ length old.vars.items → cl.0 < length t.classes
     → new_frames ≡ frames ++ record { frame = f; base = old.base; class = old.class } ∷ [] → ops.items ≡ take at old.operands.items
-        → vars.items ≡ old.vars.items ++ bindings (params_of b) (drop (suc at) old.operands.items)
+    → vars.items ≡ old.vars.items ++ bindings (params_of b) (drop (suc at) old.operands.items)
     → Keeps t None (record old { operands = ops; vars = vars; base = base; class = Some cl }) new m → IsPlain m.push → new.begun ≡ old.begun → SameCalls old new
-        → (AreKnown t (record old { operands = ops; vars = vars; base = base; class = Some cl }) → AreKnown t new)
+    → (AreKnown t (record old { operands = ops; vars = vars; base = base; class = Some cl }) → AreKnown t new)
     → m.under ≡ None → move ≡ record m { under = Some cont.Frame }
     → Goes t (length old.operands.items - at) 0 0 frames old new_frames new move
 body_goes t f cl b at base frames new_frames old new ops vars m move lt place class framed cut bound k push begun same known flat mv =
@@ -169,8 +173,10 @@ body_goes t f cl b at base frames new_frames old new ops vars m move lt place cl
       decided = λ h. omega (arith, h, same.made, same.decided);
       entered = λ h. omega (arith, h, same.own, same.fresh, same.decided);
       based = λ h. based_on new_frames mid new k.base k.size
-          (record { top = omega (arith, place, ap length bound, length-append old.vars.items (bindings (params_of b) args));
-          below = subst (λ l. Based l base) (sym rev) (omega (arith, h.top, place), h.below) });
+          (record {
+            top = omega (arith, place, ap length bound, length-append old.vars.items (bindings (params_of b) args));
+            below = subst (λ l. Based l base) (sym rev) (omega (arith, h.top, place), h.below);
+          });
       known = λ h. record {
         state = known (record {
           acc = h.state.acc;

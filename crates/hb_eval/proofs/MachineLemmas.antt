@@ -48,11 +48,11 @@ pub falls_by : (hand : Hand) (k : Cont) (push under : Option Cont) (ks : List Co
 falls_by hands.Begins k push under ks light h = omega arith
 falls_by hands.Gives k push under ks light h =
     let e : sum_over weigh_one (onto push (onto under ks)) ≡ weigh_push under + sum_over weigh_one ks = ap (λ p. sum_over weigh_one (onto p (onto under ks))) light
-         ∙ onto_sum weigh_one weigh_push refl (λ k. refl) under ks in
+    ∙ onto_sum weigh_one weigh_push refl (λ k. refl) under ks in
     omega (arith, e, h)
 falls_by hands.Stops k push under ks light h =
     let e : sum_over weigh_one (onto push (onto under ks)) ≡ weigh_push under + sum_over weigh_one ks = ap (λ p. sum_over weigh_one (onto p (onto under ks))) light
-         ∙ onto_sum weigh_one weigh_push refl (λ k. refl) under ks in
+    ∙ onto_sum weigh_one weigh_push refl (λ k. refl) under ks in
     omega (arith, e, h)
 
 -- a stop passes as a move would

@@ -22,8 +22,6 @@ pub mod state;
 mod steps;
 pub mod stop;
 mod tables;
-#[cfg(test)]
-mod tests;
 pub mod text;
 mod turns;
 pub mod value;

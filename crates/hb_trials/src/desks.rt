@@ -33,7 +33,8 @@ pub fn give_type<D: Desk, N: Names>(
     requires name { method.name.0 < length prog.now.names }
     requires site { site.0 < TYPES_MAX }
     ensures held { HoldSame (D.fixed desk.old) (D.fixed desk.new) (D.front desk.old) (D.front desk.new) }
-    ensures ready { OnOk result (StaysReady prog.now (N.known names.old) (N.known names.new) (N.asked names.old) (N.asked names.new) (D.fixed desk.old) (D.fixed desk.new) (D.front desk.old) (D.front desk.new) cache.old cache.new) }
+    ensures ready { OnOk result (StaysReady prog.now (N.known names.old) (N.known names.new) (N.asked names.old) (N.asked names.new)
+        (D.fixed desk.old) (D.fixed desk.new) (D.front desk.old) (D.front desk.new) cache.old cache.new) }
 {
     let key = names.key(alloc, method.class, prog.name(method.name))?;
     desk.reserve(alloc, 1)?;
@@ -57,7 +58,8 @@ pub fn give_def<D: Desk, N: Names>(
     requires name { method.name.0 < length prog.now.names }
     requires site { site.0 < BODIES_MAX }
     ensures held { HoldSame (D.fixed desk.old) (D.fixed desk.new) (D.front desk.old) (D.front desk.new) }
-    ensures ready { OnOk result (StaysReady prog.now (N.known names.old) (N.known names.new) (N.asked names.old) (N.asked names.new) (D.fixed desk.old) (D.fixed desk.new) (D.front desk.old) (D.front desk.new) cache.old cache.new) }
+    ensures ready { OnOk result (StaysReady prog.now (N.known names.old) (N.known names.new) (N.asked names.old) (N.asked names.new)
+        (D.fixed desk.old) (D.fixed desk.new) (D.front desk.old) (D.front desk.new) cache.old cache.new) }
 {
     let key = names.key(alloc, method.class, prog.name(method.name))?;
     desk.reserve(alloc, 1)?;

@@ -70,7 +70,8 @@ pub fn make_change<D: Desk, N: Names>(
     names: &mut N,
     cache: &mut Cache,
 ) -> Result<(), Fail>
-    ensures { OnOk result (StaysReady prog.now (N.known names.old) (N.known names.new) (N.asked names.old) (N.asked names.new) (D.fixed desk.old) (D.fixed desk.new) (D.front desk.old) (D.front desk.new) cache.old cache.new) }
+    ensures { OnOk result (StaysReady prog.now (N.known names.old) (N.known names.new) (N.asked names.old) (N.asked names.new)
+        (D.fixed desk.old) (D.fixed desk.new) (D.front desk.old) (D.front desk.new) cache.old cache.new) }
 {
     match change {
         Change::Type(number) => {

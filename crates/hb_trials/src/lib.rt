@@ -18,3 +18,5 @@ mod own;
 mod runs;
 #[cfg(test)]
 mod texts;
+#[cfg(test)]
+mod values;

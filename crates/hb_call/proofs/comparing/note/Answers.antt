@@ -12,5 +12,5 @@ pub returns : goal.returns
 returns c =
     let at : c.loop-i.i ≡ c.args.last = omega arith in
     c.in_ok-push-2.ensures.items ∙ ap (λ l. l ++ record c.kept_answer.result { held = c.args.held } ∷ []) c.loop-i.invariant
-        ∙ ap (λ (n : ℕ). take n (answers_kept c.args.kept.now) ++ record c.kept_answer.result { held = c.args.held } ∷ []) at
+    ∙ ap (λ (n : ℕ). take n (answers_kept c.args.kept.now) ++ record c.kept_answer.result { held = c.args.held } ∷ []) at
     ∙ sym (take_other (λ (a : Answer). record a { held = c.args.held }) (answers_kept c.args.kept.now) c.args.last c.kept_answer.result c.kept_answer.ensures)

@@ -52,7 +52,7 @@ returns-in-While-clause-started c =
     let took = rw c.first-in-While.ensures.value at c.take-in-While.ensures.took in
     rw c.first-in-While.ensures.state (first_starts _ _ c.in-While.c c.args.state.now _ _ c.take-in-While.result took
     (λ names calls keeps room s us fs h. while_begins (record { program = c.args.prog.now; names = names; calls = calls }) keeps room c.args.state.now.at.0 c.in-While.c.0 c.in-While.b.0 s
-        c.in-While.ensures.kinds.0.0 h c.in-While.ensures.tree)
+    c.in-While.ensures.kinds.0.0 h c.in-While.ensures.tree)
     c.if-state-eq0.false (c.in-While.ensures.kinds.0.0, c.in-While.ensures.kinds.1.0) c.in-While.ensures.kinds.0.0 (refl, refl) tt)
 
 pub returns-in-Call-clause-started : goal.returns-in-Call-clause-started
@@ -77,7 +77,7 @@ returns-in-Declare-Computed-default-default-clause-started c =
     let kinds = rw c.in-Declare-Computed-default-default.field-0-is at c.in-Declare-Computed-default-default.ensures.kinds in
     let took = rw c.first-in-Declare-Computed-default-default.ensures.value at c.take-in-Declare-Computed-default-default.ensures.took in
     rw (c.first-in-Declare-Computed-default-default.ensures.state, c.in-Declare-Computed-default-default.field-0-is)
-        (first_starts _ _ c.in-Declare-Computed-default-default.e c.args.state.now _ _ c.take-in-Declare-Computed-default-default.result took
+    (first_starts _ _ c.in-Declare-Computed-default-default.e c.args.state.now _ _ c.take-in-Declare-Computed-default-default.result took
     (λ names calls keeps room s us fs h. declare_begins (record { program = c.args.prog.now; names = names; calls = calls }) room c.args.state.now.at.0 _ c.in-Declare-Computed-default-default.e.0 _ _ s h tree)
     c.if-state-eq0.false (c.requires.expr, subst IsOfMethod (sym tree) tt) kinds.0.0 (refl, refl) tt)
 

@@ -21,8 +21,8 @@ returns-clause-turned g c =
     (λ m r. reads_before _ _ _ _ old mid new _ _ _ refl refl refl
     (argument_came t c.args.id c.args.count at c.args.frames.now.items old mid c.push.new.self c.replace-value.new.dest (omega (arith, c.requires.ready.operands)) pushed refl)
     (subst (λ (k : ℕ). Reads (g.N.Names.known c.next_argument.new.names) (g.D.Desk.fixed c.args.desk.now).caller (g.D.Desk.front c.args.desk.now) (g.D.Desk.front c.next_argument.new.desk) mid new
-        (with_operands t at (λ w room vs s. arguments_from w room (tree_at t c.args.id.0) k vs s) c.args.frames.now.items mid) (after t m frames new)) (add-one c.args.count)
+    (with_operands t at (λ w room vs s. arguments_from w room (tree_at t c.args.id.0) k vs s) c.args.frames.now.items mid) (after t m frames new)) (add-one c.args.count)
     (subst (λ (n : ℕ). Reads (g.N.Names.known c.next_argument.new.names) (g.D.Desk.fixed c.args.desk.now).caller (g.D.Desk.front c.args.desk.now) (g.D.Desk.front c.next_argument.new.desk) mid new
-        (with_operands t n (λ w room vs s. arguments_from w room (tree_at t c.args.id.0) (c.args.count + 1) vs s) c.args.frames.now.items mid) (after t m frames new)) place r)))
+    (with_operands t n (λ w room vs s. arguments_from w room (tree_at t c.args.id.0) (c.args.count + 1) vs s) c.args.frames.now.items mid) (after t m frames new)) place r)))
     (λ m r. pushed_goes t (suc c.args.count) 1 c.args.frames.now.items old mid frames new m c.push.new.self c.replace-value.new.dest pushed refl (subst (IsKnown t) (sym c.replace-value.ensures.after) tt)
     (subst (λ (k : ℕ). Goes t (suc k) 0 1 c.args.frames.now.items mid frames new m) (add-one c.args.count) r)) x) c.next_argument.ensures.turned

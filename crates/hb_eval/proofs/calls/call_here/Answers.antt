@@ -10,7 +10,7 @@ returns-in-Err-clause-reads g c =
     let old = c.args.state.now in
     let rec = ap receiver (sym c.index.ensures) ∙ sym c.receiver_class.ensures ∙ c.in-Err.is in
     call_halts _ c.args.prog.now _ _ c.args.id c.args.name.0 c.args.at c.index.result.now c.in-Err.stop c.args.frames.now.items old c.refuse.new.state c.refuse.new.state.operands c.refuse.result
-        c.requires.at c.refuse.ensures.cut c.refuse.ensures.state c.refuse.ensures.value
+    c.requires.at c.refuse.ensures.cut c.refuse.ensures.state c.refuse.ensures.value
     (λ names p few vs s. call_stops c.args.prog.now names _ c.args.id.0 c.args.name.0 _ c.in-Err.stop vs s rec)
 
 pub returns-in-Err-clause-grown : goal.returns-in-Err-clause-grown
@@ -22,7 +22,7 @@ returns-in-Ok-clause-reads g c =
     let rec = ap receiver (sym c.index.ensures) ∙ sym c.receiver_class.ensures ∙ c.in-Ok.is in
     let none : room (frames_at c.args.frames.now.items old) ≡ 0 = omega (arith, c.if-len-ge-FRAMES_MAX.true, c.len.ensures, c.args.frames.now.ok, frames_length c.args.frames.now.items old) in
     call_halts _ c.args.prog.now _ _ c.args.id c.args.name.0 c.args.at c.index.result.now stop.Deep c.args.frames.now.items old c.refuse-in-Ok.new.state c.refuse-in-Ok.new.state.operands
-        c.refuse-in-Ok.result c.requires.at c.refuse-in-Ok.ensures.cut c.refuse-in-Ok.ensures.state c.refuse-in-Ok.ensures.value
+    c.refuse-in-Ok.result c.requires.at c.refuse-in-Ok.ensures.cut c.refuse-in-Ok.ensures.state c.refuse-in-Ok.ensures.value
     (λ names p few vs s. call_deep c.args.prog.now names (room (frames_at c.args.frames.now.items old)) c.args.id.0 c.args.name.0 _ c.in-Ok.field-0 vs s none rec)
 
 pub returns-in-Ok-clause-grown : goal.returns-in-Ok-clause-grown

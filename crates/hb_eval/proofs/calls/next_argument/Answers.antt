@@ -58,7 +58,7 @@ returns-else-next-ids-clause-turned g c =
     (λ m r. reads_from _ _ _ _ old c.call.new.state _ _ _
     (arguments_there t c.args.id c.args.count at c.in-Call.field-0.0 c.in-Call.name.0 ids c.args.frames.now.items old tree c.if-next-ids.false (omega (arith, c.requires.there)))
     (subst (λ (n : ℕ). Reads (g.N.Names.known c.call.new.names) (g.D.Desk.fixed c.args.desk.now).caller (g.D.Desk.front c.args.desk.now) (g.D.Desk.front c.call.new.desk) old c.call.new.state
-        (with_operands t n (λ w room vs s. calling w room c.args.id.0 c.in-Call.name.0 vs s) c.args.frames.now.items old) (after t m c.call.new.frames.items c.call.new.state)) same r))
+    (with_operands t n (λ w room vs s. calling w room c.args.id.0 c.in-Call.name.0 vs s) c.args.frames.now.items old) (after t m c.call.new.frames.items c.call.new.state)) same r))
     (λ m r. subst (λ (n : ℕ). Goes t n 0 1 c.args.frames.now.items old c.call.new.frames.items c.call.new.state m) size r) x) c.call.ensures.turned
 
 pub returns-then-next-ids-clause-shares : goal.returns-then-next-ids-clause-shares

@@ -20,6 +20,6 @@ returns-clause-turned g c =
     (λ m r. reads_before _ _ _ _ old mid new _ _ _ refl refl refl
     (receiver_came t c.args.id c.args.frames.now.items old mid c.push.new.self c.replace-value.new.dest pushed refl)
     (subst (λ (n : ℕ). Reads (g.N.Names.known c.next_argument.new.names) (g.D.Desk.fixed c.args.desk.now).caller (g.D.Desk.front c.args.desk.now) (g.D.Desk.front c.next_argument.new.desk) mid new
-        (with_operands t n (λ w room vs s. arguments_from w room (tree_at t c.args.id.0) 0 vs s) c.args.frames.now.items mid) (after t m frames new)) at r))
+    (with_operands t n (λ w room vs s. arguments_from w room (tree_at t c.args.id.0) 0 vs s) c.args.frames.now.items mid) (after t m frames new)) at r))
     (λ m r. pushed_goes t 0 1 c.args.frames.now.items old mid frames new m c.push.new.self c.replace-value.new.dest pushed refl (subst (IsKnown t) (sym c.replace-value.ensures.after) tt) r) x)
-        c.next_argument.ensures.turned
+    c.next_argument.ensures.turned

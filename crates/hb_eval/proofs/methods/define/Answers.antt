@@ -12,19 +12,19 @@ returns-in-Ok-define-clause-acts g c =
     rw (← c.reserve.ensures.front, ← c.reserve.ensures.fixed)
     (acts_kept _ _ _ _ _ c.args.state.now _ _ _
     (given _ _ _ _ c.args.id (c.args.class.0, c.args.name.now) c.in-Ok.key.0
-        (λ key. define_meaning key c.args.site.0) c.in-Ok-define.value _ _ _ c.in-Ok.ensures.key c.in-Ok-define.ensures.act c.give.ensures.state c.give.ensures.value))
+    (λ key. define_meaning key c.args.site.0) c.in-Ok-define.value _ _ _ c.in-Ok.ensures.key c.in-Ok-define.ensures.act c.give.ensures.state c.give.ensures.value))
 
 pub returns-in-Err-clause-acts : goal.returns-in-Err-clause-acts
 returns-in-Err-clause-acts g c =
     rw (← c.reserve.ensures.front, ← c.reserve.ensures.fixed)
     (acts_kept _ _ _ _ _ c.args.state.now _ _ _
     (stopped _ _ _ _ c.args.id (c.args.class.0, c.args.name.now) c.in-Ok.key.0
-        (λ key. define_meaning key c.args.site.0) c.in-Err.stop _ _ _ c.in-Ok.ensures.key c.in-Err.ensures.act c.halt.ensures.state c.halt.ensures.value))
+    (λ key. define_meaning key c.args.site.0) c.in-Err.stop _ _ _ c.in-Ok.ensures.key c.in-Err.ensures.act c.halt.ensures.state c.halt.ensures.value))
 
 pub returns-in-Err-Full-clause-acts : goal.returns-in-Err-Full-clause-acts
 returns-in-Err-Full-clause-acts g c =
     full _ _ _ _ c.args.id (c.args.class.0, c.args.name.now) (λ key. define_meaning key c.args.site.0) _ _ _ (c.in-Err-Full.ensures.full.0 (ap Err c.in-Err-Full.field-0-is))
-        (ap (acts _) c.reserve.ensures.front) c.halt-in-Err-Full.ensures.state c.halt-in-Err-Full.ensures.value
+    (ap (acts _) c.reserve.ensures.front) c.halt-in-Err-Full.ensures.state c.halt-in-Err-Full.ensures.value
 
 pub returns-in-Ok-define-clause-grown : goal.returns-in-Ok-define-clause-grown
 returns-in-Ok-define-clause-grown g c t =

@@ -17,7 +17,8 @@ returns-then-eq g c =
     let entry : TypeAdds was.caller old new c.in_ok-key.key c.args.site typed.Done = subst (λ (answer : TypeAnswer). TypeAdds was.caller old new c.in_ok-key.key c.args.site answer) done adds in
     record {
       held = held;
-      ready = ready_on c.args.prog.now _ _ _ _ _ was door old new _ _ c.key.ensures.kept c.in_ok-key.ensures.asked is held (stays_retyped was.caller old new c.in_ok-key.key c.args.site _ _ entry c.drop_type.ensures.each);
+      ready = ready_on c.args.prog.now _ _ _ _ _ was door old new _ _ c.key.ensures.kept c.in_ok-key.ensures.asked is held
+          (stays_retyped was.caller old new c.in_ok-key.key c.args.site _ _ entry c.drop_type.ensures.each);
     }
 
 pub returns-else-eq : goal.returns-else-eq

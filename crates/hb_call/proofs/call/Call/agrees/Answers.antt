@@ -11,7 +11,7 @@ returns-in_default-clause-ended g c =
     let gone : c.find.result ≡ None = search rules in
     let none : of_body c.args.body.0 (kept_at o.cache.now o.key.0) ≡ None = sym c.find.ensures.found ∙ ap option_copied gone in
     ends_unfound (given_of g.D.Desk.fixed o) (moment_of g.D.Desk.front g.N.Names.known g.N.Names.asked o) o.held.now.items o.compared.now.items o.answers.now.items c.args.body c.requires.fresh.1
-        c.requires.fresh.0 c.requires.calling (unfound_rightly (given_of g.D.Desk.fixed o) c.args.body none)
+    c.requires.fresh.0 c.requires.calling (unfound_rightly (given_of g.D.Desk.fixed o) c.args.body none)
 
 pub returns-then-kept-self-clause-ended : goal.returns-then-kept-self-clause-ended
 returns-then-kept-self-clause-ended g c =
@@ -20,4 +20,4 @@ returns-then-kept-self-clause-ended g c =
     let f = found_kept c.args.body.0 (kept_at o.cache.now o.key.0) kept (e ∙ c.find.ensures.found) in
     let key = c.find.ensures.own kept (sym e) in
     ends_unfound (given_of g.D.Desk.fixed o) (moment_of g.D.Desk.front g.N.Names.known g.N.Names.asked o) o.held.now.items o.compared.now.items o.answers.now.items c.args.body c.requires.fresh.1
-        c.requires.fresh.0 c.requires.calling (other_rightly (given_of g.D.Desk.fixed o) kept (Some c.args.body) f.0 key c.if-kept-self.true)
+    c.requires.fresh.0 c.requires.calling (other_rightly (given_of g.D.Desk.fixed o) kept (Some c.args.body) f.0 key c.if-kept-self.true)

@@ -18,7 +18,7 @@ compare_at-requires-clause-check g c =
     let check = c.requires.own.each o.key.0 kept c.requires.kept in
     rw (inv.names) (subst (λ (x : Given). IsTrueCheck x.t (g.N.Names.known o.names.now) (g.N.Names.asked o.names.now) (g.D.Desk.front l.desk.now) kept) inv.alike.same
     (check_on o.prog.now (g.N.Names.known o.names.now) (g.N.Names.known o.names.now) (g.N.Names.asked o.names.now) (g.N.Names.asked o.names.now) (g.D.Desk.front o.desk.now)
-        (g.D.Desk.front l.desk.now) (prefix_itself _) (prefix_itself _) inv.alike.goes.went.kept kept check))
+    (g.D.Desk.front l.desk.now) (prefix_itself _) (prefix_itself _) inv.alike.goes.went.kept kept check))
 
 pub note-requires-clause-counts : goal.note-requires-clause-counts
 note-requires-clause-counts g c =
@@ -37,13 +37,13 @@ returns-in_err-held-clause-ended g c =
     let failed = c.in_err-held.ensures.failed in
     let asking : IsAsking given was is [] (take i (answers_kept kept)) = rw (c.compare_at.ensures.names, failed.2) inv.asking in
     let calling : IsCalling given.t given.door given.q.0 (g.N.Names.known n.names.now) (g.N.Names.asked n.names.now) (g.D.Desk.front n.desk.now) given.key given.own n.held.now.items
-         (take i (answers_kept kept)) = rw (c.compare_at.ensures.names, failed.2, failed.1)
-         (subst (λ (x : Given). IsCalling x.t x.door x.q.0 (g.N.Names.known l.names.now) (g.N.Names.asked l.names.now) (g.D.Desk.front l.desk.now) x.key x.own l.held.now.items
-         (take i (answers_kept kept))) (sym inv.alike.same) inv.calling) in
+    (take i (answers_kept kept)) = rw (c.compare_at.ensures.names, failed.2, failed.1)
+    (subst (λ (x : Given). IsCalling x.t x.door x.q.0 (g.N.Names.known l.names.now) (g.N.Names.asked l.names.now) (g.D.Desk.front l.desk.now) x.key x.own l.held.now.items
+    (take i (answers_kept kept))) (sym inv.alike.same) inv.calling) in
     as_err (λ (r : Result Bool CallFail). HasEnded given (given_of g.D.Desk.fixed n) was is n.held.now.items n.compared.now.items kept.derivation.body r) c.from_residual.result
-        c.in_err-held.field-0.0 c.from_residual.ensures.1
+    c.in_err-held.field-0.0 c.from_residual.ensures.1
     (ends_failed given was kept c.requires.calling.own_is c.requires.takes c.requires.named.0 c.requires.named.1 c.requires.defined check c.requires.kept c.requires.key c.requires.count
-        (given_of g.D.Desk.fixed n) is n.held.now.items n.compared.now.items i c.in_err-held.field-0.0 alike known asking calling failed.0)
+    (given_of g.D.Desk.fixed n) is n.held.now.items n.compared.now.items i c.in_err-held.field-0.0 alike known asking calling failed.0)
 
 pub returns-in_err-note-clause-ended : goal.returns-in_err-note-clause-ended
 returns-in_err-note-clause-ended g c =
@@ -55,21 +55,21 @@ returns-in_err-note-clause-ended g c =
     let one = subst (λ (x : Option Held). HasCompared (given_of g.D.Desk.fixed n) (moment_of g.D.Desk.front g.N.Names.known g.N.Names.asked l) is n.held.now.items kept i x) c.in-Some.is c.in_ok-held.ensures.one in
     let more = take i (answers_kept kept) ++ said one.a (Some c.in-Some.held) ∷ [] in
     let asking = asking_on given (given_of g.D.Desk.fixed l) was (moment_of g.D.Desk.front g.N.Names.known g.N.Names.asked l) is []
-         (take i (answers_kept kept)) more inv.alike.same c.compare_at.ensures.alike.goes.went inv.asking
+    (take i (answers_kept kept)) more inv.alike.same c.compare_at.ensures.alike.goes.went inv.asking
     (subst (λ (x : Given). IsAsking x (moment_of g.D.Desk.front g.N.Names.known g.N.Names.asked l) is (take i (answers_kept kept)) more) (sym c.compare_at.ensures.alike.same) one.asking) in
     let found = c.in-Some.held in
     let differs : more ≡ answers_differing kept i found = sym (take_other (λ (a : Answer). record a { held = found }) (answers_kept kept) i one.a one.is) in
     let calling = subst (λ (x : Given). IsCalling x.t x.door x.q.0 (g.N.Names.known n.names.now) (g.N.Names.asked n.names.now) (g.D.Desk.front n.desk.now) x.key x.own n.held.now.items
-         (answers_differing kept i found)) (sym alike.same)
+    (answers_differing kept i found)) (sym alike.same)
     (subst (λ (m : List Answer). IsCalling n.prog.now (g.D.Desk.fixed n.desk.now) n.q.0 (g.N.Names.known n.names.now) (g.N.Names.asked n.names.now)
-        (g.D.Desk.front n.desk.now) n.key n.own n.held.now.items m) differs one.calling) in
+    (g.D.Desk.front n.desk.now) n.key n.own n.held.now.items m) differs one.calling) in
     let asked = subst (λ (m : List Answer). IsAsking given was is [] m) differs asking in
     let s = seen_at kept.derivation.uses.items kept.counts.items i one.a one.is in
     let other : found.changes ≡ s.0.changes → ⊥ = λ e. one.other (e ∙ sym s.2) in
     as_err (λ (r : Result Bool CallFail). HasEnded given (given_of g.D.Desk.fixed n) was is n.held.now.items c.note.new.compared.items kept.derivation.body r) c.from_residual-in_err-note.result
-        fail.NoMemory c.from_residual-in_err-note.ensures.1
+    fail.NoMemory c.from_residual-in_err-note.ensures.1
     (ends_unnoted given was kept c.requires.calling.own_is c.requires.takes c.requires.named.0 c.requires.named.1 c.requires.defined check c.requires.kept c.requires.key c.requires.count
-        (given_of g.D.Desk.fixed n) is n.held.now.items alike known i found s.0 s.1 other asked calling c.note.new.compared.items fail.NoMemory refl)
+    (given_of g.D.Desk.fixed n) is n.held.now.items alike known i found s.0 s.1 other asked calling c.note.new.compared.items fail.NoMemory refl)
 
 pub returns-in-Some-clause-ended : goal.returns-in-Some-clause-ended
 returns-in-Some-clause-ended g c =
@@ -81,19 +81,19 @@ returns-in-Some-clause-ended g c =
     let one = subst (λ (x : Option Held). HasCompared (given_of g.D.Desk.fixed n) (moment_of g.D.Desk.front g.N.Names.known g.N.Names.asked l) is n.held.now.items kept i x) c.in-Some.is c.in_ok-held.ensures.one in
     let more = take i (answers_kept kept) ++ said one.a (Some c.in-Some.held) ∷ [] in
     let asking = asking_on given (given_of g.D.Desk.fixed l) was (moment_of g.D.Desk.front g.N.Names.known g.N.Names.asked l) is []
-         (take i (answers_kept kept)) more inv.alike.same c.compare_at.ensures.alike.goes.went inv.asking
+    (take i (answers_kept kept)) more inv.alike.same c.compare_at.ensures.alike.goes.went inv.asking
     (subst (λ (x : Given). IsAsking x (moment_of g.D.Desk.front g.N.Names.known g.N.Names.asked l) is (take i (answers_kept kept)) more) (sym c.compare_at.ensures.alike.same) one.asking) in
     let found = c.in-Some.held in
     let differs : more ≡ answers_differing kept i found = sym (take_other (λ (a : Answer). record a { held = found }) (answers_kept kept) i one.a one.is) in
     let calling = subst (λ (x : Given). IsCalling x.t x.door x.q.0 (g.N.Names.known n.names.now) (g.N.Names.asked n.names.now) (g.D.Desk.front n.desk.now) x.key x.own n.held.now.items
-         (answers_differing kept i found)) (sym alike.same)
+    (answers_differing kept i found)) (sym alike.same)
     (subst (λ (m : List Answer). IsCalling n.prog.now (g.D.Desk.fixed n.desk.now) n.q.0 (g.N.Names.known n.names.now) (g.N.Names.asked n.names.now)
-        (g.D.Desk.front n.desk.now) n.key n.own n.held.now.items m) differs one.calling) in
+    (g.D.Desk.front n.desk.now) n.key n.own n.held.now.items m) differs one.calling) in
     let asked = subst (λ (m : List Answer). IsAsking given was is [] m) differs asking in
     let s = seen_at kept.derivation.uses.items kept.counts.items i one.a one.is in
     let other : found.changes ≡ s.0.changes → ⊥ = λ e. one.other (e ∙ sym s.2) in
     rw (c.in_ok-note.ensures) (ends_differing given was kept c.requires.calling.own_is c.requires.takes c.requires.named.0 c.requires.named.1 c.requires.defined check c.requires.kept
-        c.requires.key c.requires.count (given_of g.D.Desk.fixed n) is n.held.now.items alike known i found s.0 s.1 other asked calling)
+    c.requires.key c.requires.count (given_of g.D.Desk.fixed n) is n.held.now.items alike known i found s.0 s.1 other asked calling)
 
 pub loop-i-preserved : goal.loop-i-preserved
 loop-i-preserved g c =
@@ -106,7 +106,7 @@ loop-i-preserved g c =
     let one = subst (λ (x : Option Held). HasCompared (given_of g.D.Desk.fixed n) (moment_of g.D.Desk.front g.N.Names.known g.N.Names.asked l) is n.held.now.items kept i x) none c.in_ok-held.ensures.one in
     let more = take i (answers_kept kept) ++ said one.a None ∷ [] in
     let asking = asking_on given (given_of g.D.Desk.fixed l) was (moment_of g.D.Desk.front g.N.Names.known g.N.Names.asked l) is []
-         (take i (answers_kept kept)) more inv.alike.same c.compare_at.ensures.alike.goes.went inv.asking
+    (take i (answers_kept kept)) more inv.alike.same c.compare_at.ensures.alike.goes.went inv.asking
     (subst (λ (x : Given). IsAsking x (moment_of g.D.Desk.front g.N.Names.known g.N.Names.asked l) is (take i (answers_kept kept)) more) (sym c.compare_at.ensures.alike.same) one.asking) in
     let all = take_more (answers_kept kept) i one.a one.is in
     record {
@@ -131,9 +131,9 @@ returns-clause-ended g c =
     let n = answers_length o.prog.now (g.N.Names.known o.names.now) (g.N.Names.asked o.names.now) (g.D.Desk.front o.desk.now) kept.derivation.uses.items kept.counts.items check.uses in
     let all = take_all (answers_kept kept) i (omega (arith, n, far)) in
     let calling = subst (λ (x : Given). IsCalling x.t x.door x.q.0 (g.N.Names.known l.names.now) (g.N.Names.asked l.names.now) (g.D.Desk.front l.desk.now) x.key x.own l.held.now.items
-         (take i (answers_kept kept))) (sym inv.alike.same) inv.calling in
+    (take i (answers_kept kept))) (sym inv.alike.same) inv.calling in
     ends_agreed given was kept c.requires.calling.own_is c.requires.takes c.requires.named.0 c.requires.named.1 c.requires.defined check c.requires.kept c.requires.key c.requires.count
-        (given_of g.D.Desk.fixed l) is l.held.now.items inv.alike known l.compared.now.items i all inv.asking calling
+    (given_of g.D.Desk.fixed l) is l.held.now.items inv.alike known l.compared.now.items i all inv.asking calling
 
 pub loop-i-init : goal.loop-i-init
 loop-i-init g c =

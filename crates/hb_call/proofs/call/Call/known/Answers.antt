@@ -12,4 +12,4 @@ pub returns-in-None : goal.returns-in-None
 returns-in-None g c =
     let s = c.args.self.now in
     c.found-in-None.ensures ∙ ap (λ l. held_among l c.args.key.0) c.deref-in-None.ensures.value
-        ∙ sym (among_later s.compared.now.items s.answers.now.items c.args.key.0 (sym c.in-None.is ∙ c.found.ensures ∙ ap (λ l. held_among l c.args.key.0) c.deref.ensures.value))
+    ∙ sym (among_later s.compared.now.items s.answers.now.items c.args.key.0 (sym c.in-None.is ∙ c.found.ensures ∙ ap (λ l. held_among l c.args.key.0) c.deref.ensures.value))

@@ -23,15 +23,18 @@ pub returns-in-Some-clause-finds : goal.returns-in-Some-clause-finds
 returns-in-Some-clause-finds g c =
     let s = c.args.self.now in let h = c.requires.calling in
     let is : Some c.in-Some.held ≡ held_among (s.compared.now.items ++ s.answers.now.items) c.args.key.0 = sym c.in-Some.is ∙ c.known.ensures in
-    inl (refl, type_found s.prog.now (g.N.Names.known s.names.now) (g.D.Desk.front s.desk.now) ((g.D.Desk.fixed s.desk.now).caller, s.q.0)
-        (s.compared.now.items ++ s.answers.now.items) c.args.key.0 c.in-Some.held h.answered is)
+    inl (
+      refl,
+      type_found s.prog.now (g.N.Names.known s.names.now) (g.D.Desk.front s.desk.now) ((g.D.Desk.fixed s.desk.now).caller, s.q.0)
+          (s.compared.now.items ++ s.answers.now.items) c.args.key.0 c.in-Some.held h.answered is,
+    )
 
 pub returns-in-Some-clause-calling : goal.returns-in-Some-clause-calling
 returns-in-Some-clause-calling g c class name place =
     let s = c.args.self.now in let h = c.requires.calling in
     let is : Some c.in-Some.held ≡ held_among (s.compared.now.items ++ s.answers.now.items) c.args.key.0 = sym c.in-Some.is ∙ c.known.ensures in
     noted s.prog.now (g.D.Desk.fixed s.desk.now) s.q _ _ _ s.key s.own s.held.now.items (s.compared.now.items ++ s.answers.now.items) h
-        (record { class = class; name = name; key = c.args.key; held = c.in-Some.held }) place
+    (record { class = class; name = name; key = c.args.key; held = c.in-Some.held }) place
     (type_found s.prog.now (g.N.Names.known s.names.now) (g.D.Desk.front s.desk.now) ((g.D.Desk.fixed s.desk.now).caller, s.q.0) (s.compared.now.items ++ s.answers.now.items) c.args.key.0 c.in-Some.held h.answered is)
 
 pub returns-in-Some-clause-below : goal.returns-in-Some-clause-below
@@ -64,13 +67,13 @@ returns-clause-calling g c class name place =
     let none = not_held s.prog.now door s.q _ _ _ s.key s.own s.held.now.items (s.compared.now.items ++ s.answers.now.items) h c.args.key.0 c.if-key-self.false is in
     rw (c.push_reserved.ensures.items)
     (holding s.prog.now door s.q _ _ (g.D.Desk.front s.desk.now) s.key s.own s.held.now.items (s.compared.now.items ++ s.answers.now.items) h
-        (g.D.Desk.front c.hold-held.new.self) c.args.key c.hold-held.result
-        (record { class = class; name = name; key = c.args.key; held = c.hold-held.result }) c.hold-held.ensures.entry c.hold-held.ensures.legal none c.requires.below c.requires.asked refl refl
-        place)
+    (g.D.Desk.front c.hold-held.new.self) c.args.key c.hold-held.result
+    (record { class = class; name = name; key = c.args.key; held = c.hold-held.result }) c.hold-held.ensures.entry c.hold-held.ensures.legal none c.requires.below c.requires.asked refl refl
+    place)
 
 pub returns-clause-below : goal.returns-clause-below
 returns-clause-below g c =
     let s = c.args.self.now in let door = g.D.Desk.fixed s.desk.now in
     site_below door.limit c.args.key.0 (g.D.Desk.front c.hold-held.new.self) c.hold-held.result.ty c.hold-held.ensures.legal
-        (hold_finds door.limit door.caller s.q c.args.key c.hold-held.result.ty c.hold-held.result.changes (g.D.Desk.front s.desk.now)
-        (g.D.Desk.front c.hold-held.new.self) c.hold-held.ensures.entry c.hold-held.ensures.legal).0
+    (hold_finds door.limit door.caller s.q c.args.key c.hold-held.result.ty c.hold-held.result.changes (g.D.Desk.front s.desk.now)
+    (g.D.Desk.front c.hold-held.new.self) c.hold-held.ensures.entry c.hold-held.ensures.legal).0

@@ -10,5 +10,5 @@ returns-clause-opens c =
     let k : Cont = cont.Items c.in-Some-Items.block c.in-Some-Items.at in
     let n = c.items-next.ensures in
     opens_block c.args.prog.now c.args.self.now _ rest k c.items-next.result c.requires.fine c.requires.going c.requires.gives
-        (c.in-Some-Items.ensures.items ∙ ap (λ (q : Cont). rest ++ q ∷ []) c.in-Some-Items.field-0-is)
+    (c.in-Some-Items.ensures.items ∙ ap (λ (q : Cont). rest ++ q ∷ []) c.in-Some-Items.field-0-is)
     n.moves n.plain n.steady n.known n.light (refl, refl) refl c.in_ok-self-in-Some-Items.ensures.took

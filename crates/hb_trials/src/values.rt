@@ -2,13 +2,13 @@
 
 ghost use Rattle.std.specs.Prelude.{◌≤◌};
 
-use crate::arguments::kinds;
-use crate::operators::{on_ints, operate};
-use crate::printed::{OUTPUT_MAX, print};
-use crate::spelling::is_name;
-use crate::stop::{Fail, Stop};
-use crate::text::Text;
-use crate::value::Value;
+use hb_eval::arguments::kinds;
+use hb_eval::operators::{on_ints, operate};
+use hb_eval::printed::{OUTPUT_MAX, print};
+use hb_eval::spelling::is_name;
+use hb_eval::stop::{Fail, Stop};
+use hb_eval::text::Text;
+use hb_eval::value::Value;
 use hb_tree::node::Op;
 use hb_types::types::Ty;
 use std::alloc::{AllocError, Global};
