@@ -103,7 +103,7 @@ module _ (g : Given) (known asked : List Name) (log : List Entry) (held : List K
           ap (λ j. (spot j log).changes) e ∙ sym h.own_is.2 ∙ sym count ∙ d
 
   pub held_so : times (g.door.caller, g.q.0) (spot s.key.0 log).calls ≡ 1 → HasType log (g.door.caller, g.q.0) s.key.0 the_answer.held
-  held_so one = let n = same_count one in (one, sym (seen_now s.key.0 s.changes s.site log the.fits.was n), sym n)
+  held_so one = let n = same_count one in (one, sym (seen_now g.door.limit s.key s.changes s.site log h.legal the.fits.was n), sym n)
 
   pub compared_held : times (g.door.caller, g.q.0) (spot s.key.0 log).calls ≡ 1 → IsCalling g.t g.door g.q.0 known asked log g.key g.own held (take i (answers_kept kept) ++ the_answer ∷ [])
   compared_held one = noted g.t g.door g.q known asked log g.key g.own held (take i (answers_kept kept)) h the_answer the_named (held_so one)
@@ -123,8 +123,8 @@ module _ (g : Given) (known asked : List Name) (log : List Entry) (held : List K
   pub found_same : (new : List Entry) (found : Held) → Adds g.door.caller log new (Hold g.q s.key found.ty found.changes) → IsLegal g.door.limit new → found.changes ≡ s.changes → found ≡ the_answer.held
   found_same new found adds legal e =
       let finds = hold_finds g.door.limit g.door.caller g.q s.key found.ty found.changes log new adds legal in
-      let was = seen_on s.key.0 s.changes s.site log new (adds_prefix g.door.caller log new (Hold g.q s.key found.ty found.changes) adds) the.fits.was in
-      same_held found the_answer.held (finds.0 ∙ seen_now s.key.0 s.changes s.site new was (sym finds.1 ∙ e)) e
+      let was = seen_on s.key s.changes s.site log new (adds_prefix g.door.caller log new (Hold g.q s.key found.ty found.changes) adds) the.fits.was in
+      same_held found the_answer.held (finds.0 ∙ seen_now g.door.limit s.key s.changes s.site new legal was (sym finds.1 ∙ e)) e
 
   pub the_low : length known ≤ NAMES_MAX → s.key.0 < NAMES_MAX
   the_low few = let a = place-within known (name_of g.t (key_of the.u)) s.key.0 the_named in omega (arith, a, few)

@@ -13,16 +13,17 @@ use Rattle.hb_call.specs.Calling.{Given, HasBody, HasType, IsAlike, IsAsking, Is
 use Rattle.hb_call.specs.Comparing.{HasDiffered, HasEnded, TakesArgs, TellsWhether, answers_differing, answers_kept}
 use Rattle.hb_tables.specs.declared.entry.Verdict.TheVariants as verdict
 use Rattle.hb_tables.specs.declared.entry.By.TheVariants as by
+use Rattle.hb_tables.specs.History.{IsLegal}
 use Rattle.hb_call.specs.{Alike.alike_itself, Deciding.IsRightly, GrowthLaws.each_itself, Rules.FitsRules, OwnCache.IsTrueCheck}
 use Rattle.hb_call.proofs.{RulingLemmas.none_next, MarkLemmas.marks_kept, LookingLemmas.rules_since, OwnComparedLemmas.agreed_rightly, OwnComparedLemmas.last_rightly}
 use Rattle.hb_call.proofs.{RunsLemmas.live_asked}
 use Rattle.hb_call.proofs.KeptLemmas.{Follows, IsUsable, follows_differing, follows_first, kept_next, kept_verdict, usable}
 
-module _ (g : Given) (was : Moment) (kept : Kept) (own_was : HasType was.log (g.door.caller, g.q.0) g.key.0 g.own) (args : TakesArgs g) (bytes : List ℕ)
+module _ (g : Given) (was : Moment) (kept : Kept) (legal_was : IsLegal g.door.limit was.log) (own_was : HasType was.log (g.door.caller, g.q.0) g.key.0 g.own) (args : TakesArgs g) (bytes : List ℕ)
     (named : place was.known (g.class.0, bytes) ≡ Some g.key.0) (body : HasBody g.door.caller g.q g.key (Some kept.derivation.body) was.log)
     (check : IsTrueCheck g.t was.known was.asked was.log kept) (there : kept_at g.cache g.key.0 ≡ Some kept) (key : kept.key.0 ≡ g.key.0) (count : kept.changes ≡ g.own.changes) where
   use_it : IsUsable g kept
-  use_it = usable g was.known was.asked was.log kept bytes check named key count own_was
+  use_it = usable g was.known was.asked was.log legal_was kept bytes check named key count own_was
 
   -- all but what is told follows from the answers that the uses had so far
   ends : (h : Given) (is : Moment) (held : List KeyId) (compared answers : List Answer) (r : Result Bool CallFail) → IsAlike g h was is → is.known ≡ was.known → IsAsking g was is [] answers

@@ -23,7 +23,7 @@ use Rattle.hb_names.proofs.NameLemmas.{place-at}
 use Rattle.hb_tables.specs.declared.{desk.Held.Held, entry.Entry.Entry}
 use Rattle.hb_tables.specs.declared.entry.Verdict.TheVariants as verdict
 use Rattle.hb_tables.specs.declared.entry.By.TheVariants as by
-use Rattle.hb_tables.specs.{History.spot, Rows.body_at, Rows.kinds_of, Verdicts.looks_of, Verdicts.subject}
+use Rattle.hb_tables.specs.{History.IsLegal, History.spot, Rows.body_at, Rows.kinds_of, Verdicts.looks_of, Verdicts.subject}
 use Rattle.hb_tables.proofs.VerdictLemmas.{enters_of}
 use Rattle.hb_call.specs.declared.answers.Answer.{Answer}
 use Rattle.hb_call.specs.Calling.{Given, HasType, answers_of}
@@ -147,14 +147,14 @@ pub record IsUsable (g : Given) (kept : Kept) : Type 0 where
   pub class : kept.derivation.class.0 ≡ g.class.0
   pub declared : type_declared g.t g.own.ty ≡ sites_of g.t kept.derivation.declared.0
 
-pub usable : (g : Given) (names asked : List Name) (log : List Entry) (kept : Kept) (bytes : List ℕ) → IsTrueCheck g.t names asked log kept → place names (g.class.0, bytes) ≡ Some g.key.0
+pub usable : (g : Given) (names asked : List Name) (log : List Entry) → IsLegal g.door.limit log → (kept : Kept) (bytes : List ℕ) → IsTrueCheck g.t names asked log kept → place names (g.class.0, bytes) ≡ Some g.key.0
     → kept.key.0 ≡ g.key.0 → kept.changes ≡ g.own.changes → HasType log (g.door.caller, g.q.0) g.key.0 g.own → IsUsable g kept
-usable g names asked log kept bytes h named key changes own =
+usable g names asked log legal kept bytes h named key changes own =
     let one : slice_get names g.key.0 ≡ Some h.name = ap (slice_get names) (sym key) ∙ place-at names h.name kept.key.0 h.named in
     let two : slice_get names g.key.0 ≡ Some (g.class.0, bytes) = place-at names (g.class.0, bytes) g.key.0 named in
     let same : h.name ≡ (g.class.0, bytes) = let e : Some h.name ≡ Some (g.class.0, bytes) = sym one ∙ two in cc e in
     let now : (spot kept.key.0 log).changes ≡ kept.changes = ap (λ k. (spot k log).changes) key ∙ sym own.2 ∙ sym changes in
-    let ty : g.own.ty ≡ Some h.site = own.1 ∙ ap (λ k. (spot k log).ty) (sym key) ∙ seen_now kept.key.0 kept.changes (Some h.site) log h.was now in
+    let ty : g.own.ty ≡ Some h.site = own.1 ∙ ap (λ k. (spot k log).ty) (sym key) ∙ seen_now g.door.limit kept.key kept.changes (Some h.site) log legal h.was now in
     record {
       good = h.good;
       class = sym h.class ∙ ap (λ (n : Name). n.0) same;

@@ -1,5 +1,6 @@
 -- A fresh check whose call was decided: what is kept of it is true, and the caller's own.
-use Rattle.std.proofs.Common.{◌≡◌, ◌⊎◌, inl, inr, ℕ, suc, ◌+◌, ◌≤◌, eqb, Bool, true, false, cond, List, [], ◌∷◌, ◌++◌, map, Some, None, refl, sym, ap, ◌∙◌, subst, arith, eq-eqb}
+use Rattle.std.proofs.Common.{◌≡◌, ◌⊎◌, inl, inr, ℕ, suc, ◌+◌, ◌≤◌, eqb, Bool, true, false, cond, List, [], ◌∷◌, ◌++◌, map, Some, None, refl, sym, ap, ◌∙◌, subst, arith, append_assoc, eq-eqb}
+use Rattle.std.proofs.lemmas.List.{append-nil}
 use Rattle.std.proofs.lemmas.Bool.{eqb-true}
 use Rattle.std.proofs.lemmas.Option.{none-some, same_Some}
 use Rattle.std.specs.Prelude.{Contains, Option, is_some, if◌then◌else◌}
@@ -7,6 +8,7 @@ use Rattle.std.specs.Option.{option_map}
 use Rattle.std.specs.List.{AllByRecursion}
 use mathlib.Core.List.{IsPrefix}
 use Rattle.hb_types.specs.declared.ids.BodySite.{BodySite}
+use Rattle.hb_types.specs.declared.ids.CallNo.{CallNo}
 use Rattle.hb_types.specs.declared.ids.KeyId.{KeyId}
 use Rattle.hb_types.specs.declared.ids.TypeSite.{TypeSite}
 use Rattle.hb_tree.specs.Table.{Table}
@@ -23,24 +25,29 @@ use Rattle.hb_check.specs.Asked.{Asked, answer_of, asked}
 use Rattle.hb_names.specs.Names.{Name, place}
 use Rattle.hb_tables.specs.declared.entry.Entry.{Entry}
 use Rattle.hb_tables.specs.declared.entry.Act.{Act}
-use Rattle.hb_tables.specs.declared.entry.Act.TheVariants.{Call}
+use Rattle.hb_tables.specs.declared.entry.Act.TheVariants.{Call, Hold}
 use Rattle.hb_tables.specs.declared.entry.Verdict.TheVariants as verdict
 use Rattle.hb_tables.specs.declared.entry.By.TheVariants as by
 use Rattle.hb_tables.specs.Frames.{acts}
-use Rattle.hb_tables.specs.History.{entry, spot, times, IsLegal}
+use Rattle.hb_tables.specs.declared.desk.Held.{Held}
+use Rattle.hb_tables.specs.History.{Adds, entry, spot, times, IsLegal}
 use Rattle.hb_tables.specs.Names.{name_of}
 use Rattle.hb_tables.specs.Standing.{Stand, count_of, standing}
 use Rattle.hb_tables.proofs.FrameLemmas.{acts_append}
+use Rattle.hb_tables.proofs.AddingLemmas.{held_after}
+use Rattle.hb_tables.proofs.HistoryLemmas.{legal_prefix}
+use Rattle.hb_tables.proofs.HoldingLemmas.{holds_since}
 use Rattle.hb_tables.proofs.StandingLemmas.{held_stands, standing_append}
 use Rattle.hb_call.specs.declared.answers.Answer.{Answer}
-use Rattle.hb_call.specs.Calling.{AreTrue, Given, IsAmong, IsAskedFor, answers_of}
+use Rattle.hb_call.specs.Calling.{AreTrue, Given, HasType, IsAmong, IsAskedFor, answers_of}
 use Rattle.hb_call.specs.Deciding.{IsResting}
 use Rattle.hb_call.specs.GrowthLaws.{prefix_itself}
 use Rattle.hb_call.specs.Held.{stands}
-use Rattle.hb_call.specs.Own.{item_by}
+use Rattle.hb_call.specs.Own.{WasSeen, item_by}
 use Rattle.hb_call.specs.OwnCache.{AreUses, HoldsCheck, IsFound, IsOwnCache, IsTrueCheck}
-use Rattle.hb_call.specs.OwnLaws.{check_on, own_put, seen_here}
+use Rattle.hb_call.specs.OwnLaws.{check_on, own_put}
 use Rattle.hb_call.specs.Sharing.{Found, FoundUses}
+use Rattle.hb_call.proofs.StayLemmas.{hold_finds, type_stays}
 use Rattle.hb_call.proofs.OwnLemmas.{IsStill, once_held, says_held, stands_still}
 
 -- what is kept of an answer
@@ -72,6 +79,26 @@ site_of : (o : Option TypeSite) (site : TypeSite) → option_map (λ (s : TypeSi
 site_of None site e = absurd (none-some site.0 e)
 site_of (Some s) site e = let p : s.0 ≡ site.0 = same_Some s.0 site.0 e in ap Some (λ i. record { 0 = p i })
 
+-- a call that holds a key has a Hold of it in the list, which found what the key has
+seen_here : (limit c : ℕ) (q : CallNo) (key : KeyId) (site : Option TypeSite) (n : ℕ) (log : List Entry) → IsLegal limit log → times (c, q.0) (spot key.0 log).calls ≡ 1 → site ≡ (spot key.0 log).ty → n ≡ (spot key.0 log).changes → WasSeen key n site log
+seen_here limit c q key site n log legal one ty changes =
+    let h = holds_since c q key log one in
+    let e : Entry = entry c (Hold q key h.ty h.changes) in
+    let start : List Entry = h.before ++ e ∷ [] in
+    let goes : start ++ h.after ≡ log = append_assoc h.before (e ∷ []) h.after ∙ sym h.is in
+    let adds : Adds c h.before start (Hold q key h.ty h.changes) = ([], ap (λ w. w ++ e ∷ []) (sym (append-nil h.before)), refl) in
+    let finds = hold_finds limit c q key h.ty h.changes h.before start adds (legal_prefix limit start log (h.after, goes) legal) in
+    let found : Held = record { ty = h.ty; changes = h.changes } in
+    let typed : HasType start (c, q.0) key.0 found = (held_after c h.before start q key h.ty h.changes adds (legal h.before h.after e h.is).2, finds.0, finds.1) in
+    let stays = subst (λ l. HasType l (c, q.0) key.0 found) goes (type_stays limit c q.0 start h.after (subst (IsLegal limit) (sym goes) legal) key.0 h.keeps found typed) in
+    record {
+      before = h.before;
+      caller = c;
+      call = q;
+      after = h.after;
+      is = h.is ∙ ap (λ (o : Option TypeSite). h.before ++ entry c (Hold q key o h.changes) ∷ h.after) (stays.1 ∙ sym ty) ∙ ap (λ m. h.before ++ entry c (Hold q key site m) ∷ h.after) (stays.2 ∙ sym changes);
+    }
+
 module _ (t : Table) (names asked_names : List Name) (log : List Entry) (x : ℕ × ℕ) where
   found_all : (answers : List Answer) → AreTrue t names log x answers → AllByRecursion (IsFound log x) (map seen_of answers)
   found_all [] h = tt
@@ -83,19 +110,19 @@ module _ (t : Table) (names asked_names : List Name) (log : List Entry) (x : ℕ
       let class : u.class.0 ≡ a.class.0 = ap (λ (y : Asked). y.class) (sym e) in let name : u.name.0 ≡ a.name.0 = ap (λ (y : Asked). y.name) (sym e) in
       ap (λ (key : Key). place names (name_of t key)) (λ i. (class i, name i)) ∙ named
 
-  uses_true : (answers : List Answer) (us : List Used) → answers_of answers ≡ map answer_of us → AreTrue t names log x answers → ((k : ℕ) → times x (spot k log).calls ≡ 1 → IsAskedFor names asked_names k) → AreUses t names asked_names log us (map seen_of answers)
-  uses_true [] [] e h all = tt
-  uses_true [] (u ∷ us) e h all = absurd (cc e)
-  uses_true (a ∷ answers) [] e h all = absurd (cc e)
-  uses_true (a ∷ answers) (u ∷ us) e h all =
+  uses_true : (limit : ℕ) → IsLegal limit log → (answers : List Answer) (us : List Used) → answers_of answers ≡ map answer_of us → AreTrue t names log x answers → ((k : ℕ) → times x (spot k log).calls ≡ 1 → IsAskedFor names asked_names k) → AreUses t names asked_names log us (map seen_of answers)
+  uses_true limit legal [] [] e h all = tt
+  uses_true limit legal [] (u ∷ us) e h all = absurd (cc e)
+  uses_true limit legal (a ∷ answers) [] e h all = absurd (cc e)
+  uses_true limit legal (a ∷ answers) (u ∷ us) e h all =
       let head : asked a.class a.name a.held.ty ≡ answer_of u = cc e in (
         record {
           named = use_named a u a.key.0 head h.0;
-          was = seen_here a.key.0 a.held.changes a.held.ty log h.1.1 h.1.2;
+          was = seen_here limit x.0 (record { 0 = x.1 }) a.key a.held.ty a.held.changes log legal h.1.0 h.1.1 h.1.2;
           typed = ap (type_at (sites_of t)) (ap (λ (y : Asked). y.site) head);
           asked_for = all a.key.0 h.1.0;
         },
-        uses_true answers us (cc e) h.2 all,
+        uses_true limit legal answers us (cc e) h.2 all,
       )
 
   among_uses : (answers : List Answer) (k : ℕ) → IsAmong k answers → is_some (count_in (map seen_of answers) k) ≡ true
@@ -146,7 +173,7 @@ module _ (g : Given) (past : Option (List Act)) (known asked_names : List Name) 
 
   true_uses : AreUses g.t known asked_names log kept.derivation.uses.items kept.counts.items
   true_uses = subst (λ (z : Derivation). AreUses g.t known asked_names log z.uses.items kept.counts.items) (sym derived)
-      (subst (λ (l : List Seen). AreUses g.t known asked_names log d.uses.items l) (sym counts) (uses_true g.t known asked_names log x answers d.uses.items r.shown.shown.uses r.calling.answered r.calling.asked_for))
+      (subst (λ (l : List Seen). AreUses g.t known asked_names log d.uses.items l) (sym counts) (uses_true g.t known asked_names log x g.door.limit r.calling.legal answers d.uses.items r.shown.shown.uses r.calling.answered r.calling.asked_for))
 
   -- what is kept is true
   pub resting_true : IsTrueCheck g.t known asked_names r.before kept
@@ -156,7 +183,7 @@ module _ (g : Given) (past : Option (List Act)) (known asked_names : List Name) 
     named = r.named.1 ∙ ap (λ (k : KeyId). Some k.0) (sym keyed);
     class = sym r.shown.shown.class_is ∙ ap (λ (z : Derivation). z.class.0) (sym derived);
     site = r.shown.declared;
-    was = seen_here kept.key.0 kept.changes (Some r.shown.declared) log (sym r.shown.typed ∙ r.calling.own_is.1 ∙ ap (λ (k : KeyId). (spot k.0 log).ty) (sym keyed)) resting_holds.changes;
+    was = seen_here g.door.limit g.door.caller g.q kept.key (Some r.shown.declared) kept.changes log r.calling.legal resting_holds.own (sym r.shown.typed ∙ r.calling.own_is.1 ∙ ap (λ (k : KeyId). (spot k.0 log).ty) (sym keyed)) resting_holds.changes;
     typed = ap (sites_of g.t) (sym r.shown.shown.declared_is ∙ ap (λ (z : Derivation). z.declared.0) (sym derived));
     asked_for = r.calling.asked_for kept.key.0 resting_holds.own;
     uses = true_uses;

@@ -1,7 +1,8 @@
 -- What a caller keeps of its checks, read from its own acts.
 use Rattle.std.specs.Prelude.{◌≡◌, ℕ, ◌==◌, Bool, true, false, if◌then◌else◌, List, [], ◌∷◌, ◌++◌, length, drop, Option, Some, None}
-use mathlib.Core.List.{IsPrefix}
 use Rattle.hb_types.specs.declared.ids.BodySite.{BodySite}
+use Rattle.hb_types.specs.declared.ids.CallNo.{CallNo}
+use Rattle.hb_types.specs.declared.ids.KeyId.{KeyId}
 use Rattle.hb_types.specs.declared.ids.TypeSite.{TypeSite}
 use Rattle.hb_cache.specs.Cache.{Agrees, Item, Items, nothing, with_item, without_item, without_key_used}
 use Rattle.hb_tables.specs.declared.entry.Entry.{Entry}
@@ -12,7 +13,7 @@ use Rattle.hb_tables.specs.declared.entry.Verdict.TheVariants as verdict
 use Rattle.hb_tables.specs.declared.entry.By.{By}
 use Rattle.hb_tables.specs.declared.entry.By.TheVariants as by
 use Rattle.hb_tables.specs.Frames.{acts}
-use Rattle.hb_tables.specs.History.{spot}
+use Rattle.hb_tables.specs.History.{entry, spot}
 use Rattle.hb_tables.specs.Standing.{Stand, standing}
 
 -- the count that the Hold of a key found, among these Holds
@@ -85,9 +86,10 @@ pub record OwnAgrees (c : ℕ) (past : List Act) (k : ℕ) (log : List Entry) : 
   pub kept : cache_since past (acts c log) k ≡ Some item
   pub agrees : Agrees k item (λ j. (spot j log).body) (λ j. (spot j log).changes)
 
--- At some place of the list the key had this type, which had been changed so often.
-pub record WasSeen (k n : ℕ) (site : Option TypeSite) (log : List Entry) : Type 0 where
-  pub at : List Entry
-  pub begins : IsPrefix at log
-  pub changes : (spot k at).changes ≡ n
-  pub ty : (spot k at).ty ≡ site
+-- the list has a Hold of the key, which found this site and this count
+pub record WasSeen (key : KeyId) (n : ℕ) (site : Option TypeSite) (log : List Entry) : Type 0 where
+  pub before : List Entry
+  pub caller : ℕ
+  pub call : CallNo
+  pub after : List Entry
+  pub is : log ≡ before ++ entry caller (Hold call key site n) ∷ after

@@ -23,10 +23,10 @@ use Rattle.hb_call.specs.Growth.{EachNew}
 use Rattle.hb_call.specs.Own.{WasSeen, cache_since}
 use Rattle.hb_call.specs.Rules.{EntersBy}
 
--- What a hold found is that of a use: the key is that of its method, which had this type with this count, and its method type was that of the use's site. Its name was asked for.
+-- What a hold found is that of a use: the key is that of its method, a Hold of which found this site with this count, and the method type there was that of the use's site. Its name was asked for.
 pub record IsUse (t : Table) (names asked : List Name) (log : List Entry) (u : Used) (s : Seen) : Type 0 where
   pub named : place names (name_of t (key_of u)) ≡ Some s.key.0
-  pub was : WasSeen s.key.0 s.changes s.site log
+  pub was : WasSeen s.key s.changes s.site log
   pub typed : type_at (sites_of t) (option_map (λ x. x.0) s.site) ≡ type_of (sites_of t) u
   pub asked_for : IsAskedFor names asked s.key.0
 
@@ -37,14 +37,14 @@ AreUses t names asked log [] (s ∷ seen) = ⊥
 AreUses t names asked log (u ∷ uses) [] = ⊥
 AreUses t names asked log (u ∷ uses) (s ∷ seen) = IsUse t names asked log u s × AreUses t names asked log uses seen
 
--- A kept check is true: its derivation is for the program, and of the class of its key's name. Its key had the derivation's declared type with the kept count, and each use had its type with its count. All their names were asked for.
+-- A kept check is true: its derivation is for the program, and of the class of its key's name. A Hold of its key found the derivation's declared type with the kept count, and Holds found the type of each use with its count. All their names were asked for.
 pub record IsTrueCheck (t : Table) (names asked : List Name) (log : List Entry) (kept : Kept) : Type 0 where
   pub good : IsFor t (content_of kept.derivation)
   pub name : Name
   pub named : place names name ≡ Some kept.key.0
   pub class : name.0 ≡ kept.derivation.class.0
   pub site : TypeSite
-  pub was : WasSeen kept.key.0 kept.changes (Some site) log
+  pub was : WasSeen kept.key kept.changes (Some site) log
   pub typed : sites_of t site.0 ≡ sites_of t kept.derivation.declared.0
   pub asked_for : IsAskedFor names asked kept.key.0
   pub uses : AreUses t names asked log kept.derivation.uses.items kept.counts.items

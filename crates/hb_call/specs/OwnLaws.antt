@@ -27,7 +27,7 @@ use Rattle.hb_tables.specs.declared.entry.Act.TheVariants.{Hold, Free, Retype, B
 use Rattle.hb_tables.specs.declared.entry.ArgKinds.{ArgKinds}
 use Rattle.hb_tables.specs.declared.entry.Verdict.{Verdict}
 use Rattle.hb_tables.specs.Frames.{acts}
-use Rattle.hb_tables.specs.History.{spot, Adds, Learns}
+use Rattle.hb_tables.specs.History.{entry, spot, Adds, IsLegal, Learns}
 use Rattle.hb_tables.specs.Names.{name_of}
 use Rattle.hb_tables.specs.Rows.{site_in, type_of_key, types_in}
 use Rattle.hb_tables.specs.Standing.{Stand, standing, standing_from}
@@ -162,15 +162,19 @@ asked_already names asked k h = ap (with_found asked) h.named ∙ with_name-know
 -- ── what was seen ──
 
 -- a type changes only with its count
-pub seen_now : (k n : ℕ) (site : Option TypeSite) (log : List Entry) → WasSeen k n site log → (spot k log).changes ≡ n → (spot k log).ty ≡ site
-seen_now k n site log h = subst (λ l. (spot k l).changes ≡ n → (spot k l).ty ≡ site) h.begins.1 (λ e. changes_same k h.at h.begins.0 (e ∙ sym h.changes) ∙ h.ty)
+pub seen_now : (limit : ℕ) (key : KeyId) (n : ℕ) (site : Option TypeSite) (log : List Entry) → IsLegal limit log → WasSeen key n site log → (spot key.0 log).changes ≡ n → (spot key.0 log).ty ≡ site
+seen_now limit key n site log legal h =
+    let e : Entry = entry h.caller (Hold h.call key site n) in let found = legal h.before h.after e h.is in
+    subst (λ l. (spot key.0 l).changes ≡ n → (spot key.0 l).ty ≡ site) (sym h.is) (λ now. changes_same key.0 h.before (e ∷ h.after) (now ∙ found.1) ∙ sym found.0)
 
-pub seen_on : (k n : ℕ) (site : Option TypeSite) (old new : List Entry) → IsPrefix old new → WasSeen k n site old → WasSeen k n site new
-seen_on k n site old new p h = record { at = h.at; begins = prefix_more h.at old new h.begins p; changes = h.changes; ty = h.ty }
-
--- what a key has was seen
-pub seen_here : (k n : ℕ) (site : Option TypeSite) (log : List Entry) → site ≡ (spot k log).ty → n ≡ (spot k log).changes → WasSeen k n site log
-seen_here k n site log ty changes = record { at = log; begins = prefix_itself log; changes = sym changes; ty = sym ty }
+pub seen_on : (key : KeyId) (n : ℕ) (site : Option TypeSite) (old new : List Entry) → IsPrefix old new → WasSeen key n site old → WasSeen key n site new
+seen_on key n site old new p h = record {
+  before = h.before;
+  caller = h.caller;
+  call = h.call;
+  after = h.after ++ p.0;
+  is = sym p.1 ∙ ap (λ w. w ++ p.0) h.is ∙ append_assoc h.before (entry h.caller (Hold h.call key site n) ∷ h.after) p.0;
+}
 
 -- ── kept checks stay true ──
 
@@ -178,7 +182,7 @@ module _ (t : Table) (names known was asked : List Name) (old new : List Entry) 
   pub use_on : (u : Used) (s : Seen) → IsUse t names was old u s → IsUse t known asked new u s
   use_on u s h = record {
     named = place-longer names known (name_of t (key_of u)) s.key.0 longer h.named;
-    was = seen_on s.key.0 s.changes s.site old new goes h.was;
+    was = seen_on s.key s.changes s.site old new goes h.was;
     typed = h.typed;
     asked_for = asked_on names known was asked s.key.0 longer more h.asked_for;
   }
@@ -196,7 +200,7 @@ module _ (t : Table) (names known was asked : List Name) (old new : List Entry) 
     named = place-longer names known h.name kept.key.0 longer h.named;
     class = h.class;
     site = h.site;
-    was = seen_on kept.key.0 kept.changes (Some h.site) old new goes h.was;
+    was = seen_on kept.key kept.changes (Some h.site) old new goes h.was;
     typed = h.typed;
     asked_for = asked_on names known was asked kept.key.0 longer more h.asked_for;
     uses = uses_on kept.derivation.uses.items kept.counts.items h.uses;
@@ -344,9 +348,9 @@ keeps_itself t c names asked log cache = keeps_named t c names names asked asked
 
 -- ── the types of a kept check that agrees ──
 
-module _ (t : Table) (names asked : List Name) (log : List Entry) where
+module _ (t : Table) (names asked : List Name) (limit : ℕ) (log : List Entry) (legal : IsLegal limit log) where
   use_type : (u : Used) (s : Seen) → IsUse t names asked log u s → (spot s.key.0 log).changes ≡ s.changes → types_in t names log (key_of u) ≡ type_of (sites_of t) u
-  use_type u s h now = ap (λ o. type_at (sites_of t) (site_in log o)) h.named ∙ ap (λ (o : Option TypeSite). type_at (sites_of t) (option_map (λ (x : TypeSite). x.0) o)) (seen_now s.key.0 s.changes s.site log h.was now) ∙ h.typed
+  use_type u s h now = ap (λ o. type_at (sites_of t) (site_in log o)) h.named ∙ ap (λ (o : Option TypeSite). type_at (sites_of t) (option_map (λ (x : TypeSite). x.0) o)) (seen_now limit s.key s.changes s.site log legal h.was now) ∙ h.typed
 
   -- where the counts of uses are as they were, their methods have the types for which the uses stand
   pub uses_agree : (us : List Used) (seen : List Seen) → AreUses t names asked log us seen → AllByRecursion (λ s. (spot s.key.0 log).changes ≡ s.changes) seen → AgreesWith (sites_of t) us (types_in t names log)
@@ -357,7 +361,7 @@ module _ (t : Table) (names asked : List Name) (log : List Entry) where
 
   -- where the count of its key is as it was, the key has the derivation's declared type
   pub check_type : (kept : Kept) → IsTrueCheck t names asked log kept → (spot kept.key.0 log).changes ≡ kept.changes → type_of_key t log kept.key.0 ≡ sites_of t kept.derivation.declared.0
-  check_type kept h now = ap (λ (o : Option TypeSite). type_at (sites_of t) (option_map (λ (x : TypeSite). x.0) o)) (seen_now kept.key.0 kept.changes (Some h.site) log h.was now) ∙ h.typed
+  check_type kept h now = ap (λ (o : Option TypeSite). type_at (sites_of t) (option_map (λ (x : TypeSite). x.0) o)) (seen_now limit kept.key kept.changes (Some h.site) log legal h.was now) ∙ h.typed
 
 -- ── when a call finds its own check ──
 

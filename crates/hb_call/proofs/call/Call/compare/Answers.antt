@@ -42,7 +42,7 @@ returns-in_err-held-clause-ended g c =
     (take i (answers_kept kept))) (sym inv.alike.same) inv.calling) in
     as_err (λ (r : Result Bool CallFail). HasEnded given (given_of g.D.Desk.fixed n) was is n.held.now.items n.compared.now.items kept.derivation.body r) c.from_residual.result
     c.in_err-held.field-0.0 c.from_residual.ensures.1
-    (ends_failed given was kept c.requires.calling.own_is c.requires.takes c.requires.named.0 c.requires.named.1 c.requires.defined check c.requires.kept c.requires.key c.requires.count
+    (ends_failed given was kept c.requires.calling.legal c.requires.calling.own_is c.requires.takes c.requires.named.0 c.requires.named.1 c.requires.defined check c.requires.kept c.requires.key c.requires.count
     (given_of g.D.Desk.fixed n) is n.held.now.items n.compared.now.items i c.in_err-held.field-0.0 alike known asking calling failed.0)
 
 pub returns-in_err-note-clause-ended : goal.returns-in_err-note-clause-ended
@@ -68,7 +68,7 @@ returns-in_err-note-clause-ended g c =
     let other : found.changes ≡ s.0.changes → ⊥ = λ e. one.other (e ∙ sym s.2) in
     as_err (λ (r : Result Bool CallFail). HasEnded given (given_of g.D.Desk.fixed n) was is n.held.now.items c.note.new.compared.items kept.derivation.body r) c.from_residual-in_err-note.result
     fail.NoMemory c.from_residual-in_err-note.ensures.1
-    (ends_unnoted given was kept c.requires.calling.own_is c.requires.takes c.requires.named.0 c.requires.named.1 c.requires.defined check c.requires.kept c.requires.key c.requires.count
+    (ends_unnoted given was kept c.requires.calling.legal c.requires.calling.own_is c.requires.takes c.requires.named.0 c.requires.named.1 c.requires.defined check c.requires.kept c.requires.key c.requires.count
     (given_of g.D.Desk.fixed n) is n.held.now.items alike known i found s.0 s.1 other asked calling c.note.new.compared.items fail.NoMemory refl)
 
 pub returns-in-Some-clause-ended : goal.returns-in-Some-clause-ended
@@ -92,7 +92,7 @@ returns-in-Some-clause-ended g c =
     let asked = subst (λ (m : List Answer). IsAsking given was is [] m) differs asking in
     let s = seen_at kept.derivation.uses.items kept.counts.items i one.a one.is in
     let other : found.changes ≡ s.0.changes → ⊥ = λ e. one.other (e ∙ sym s.2) in
-    rw (c.in_ok-note.ensures) (ends_differing given was kept c.requires.calling.own_is c.requires.takes c.requires.named.0 c.requires.named.1 c.requires.defined check c.requires.kept
+    rw (c.in_ok-note.ensures) (ends_differing given was kept c.requires.calling.legal c.requires.calling.own_is c.requires.takes c.requires.named.0 c.requires.named.1 c.requires.defined check c.requires.kept
     c.requires.key c.requires.count (given_of g.D.Desk.fixed n) is n.held.now.items alike known i found s.0 s.1 other asked calling)
 
 pub loop-i-preserved : goal.loop-i-preserved
@@ -132,7 +132,7 @@ returns-clause-ended g c =
     let all = take_all (answers_kept kept) i (omega (arith, n, far)) in
     let calling = subst (λ (x : Given). IsCalling x.t x.door x.q.0 (g.N.Names.known l.names.now) (g.N.Names.asked l.names.now) (g.D.Desk.front l.desk.now) x.key x.own l.held.now.items
     (take i (answers_kept kept))) (sym inv.alike.same) inv.calling in
-    ends_agreed given was kept c.requires.calling.own_is c.requires.takes c.requires.named.0 c.requires.named.1 c.requires.defined check c.requires.kept c.requires.key c.requires.count
+    ends_agreed given was kept c.requires.calling.legal c.requires.calling.own_is c.requires.takes c.requires.named.0 c.requires.named.1 c.requires.defined check c.requires.kept c.requires.key c.requires.count
     (given_of g.D.Desk.fixed l) is l.held.now.items inv.alike known l.compared.now.items i all inv.asking calling
 
 pub loop-i-init : goal.loop-i-init
