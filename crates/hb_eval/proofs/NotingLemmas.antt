@@ -71,10 +71,10 @@ noted_ok (Err e) a = tt
 -- ── what is noted goes into the journal ──
 
 -- a journal is no part of what a machine does
-pub advances_noted : (t : Table) (c : ℕ) (known was asked : List Name) (past now : List Entry) (old m new : Machine) (kept : Option (Vec Entry Global)) → new ≡ record m { journal = kept } → Advances t c known was asked past now old m → Advances t c known was asked past now old new
-advances_noted t c known was asked past now old m new kept same a =
+pub advances_noted : (t : Table) (c : ℕ) (names known was asked : List Name) (past now : List Entry) (old m new : Machine) (kept : Option (Vec Entry Global)) → new ≡ record m { journal = kept } → Advances t c names known was asked past now old m → Advances t c names known was asked past now old new
+advances_noted t c names known was asked past now old m new kept same a =
     let f = a.fine in
-    let noted : Advances t c known was asked past now old (record m { journal = kept }) =
+    let noted : Advances t c names known was asked past now old (record m { journal = kept }) =
     record {
       reads = a.reads;
       fine = record {
@@ -92,7 +92,7 @@ advances_noted t c known was asked past now old m new kept same a =
       grown = a.grown;
       own = a.own;
     } in
-    subst (Advances t c known was asked past now old) (sym same) noted
+    subst (Advances t c names known was asked past now old) (sym same) noted
 
 -- the notes are the entries with the acts that came
 pub noted_more : (caller : CallerId) (before now more : List Act) (notes : List Entry) → now ≡ before ++ more → entries caller now ≡ entries caller before ++ notes → notes ≡ entries caller more

@@ -417,10 +417,10 @@ impl Machine {
         requires fine { IsFineMachine prog.now self.old }
         requires going { IsGoing self.old }
         requires holding { Holding (D.fixed desk.old).caller (self.old.state.made + 1) (frames_of self.old.frames.items) (D.front desk.old) }
-        requires own { IsOwnCache prog.now (N.known names.old) (N.asked names.old) (D.fixed desk.old).caller (D.front desk.old) self.old.state.cache }
+        requires cache { IsTrueCache prog.now (N.known names.old) (N.asked names.old) (D.fixed desk.old).caller (D.front desk.old) self.old.state.cache }
         requires caller { B.caller ≡ self.old.caller }
         requires begun { B.before ≡ entries self.old.caller (acts (D.fixed desk.old).caller (D.front desk.old)) }
-        ensures advances { OnOk result (Advances prog.now (D.fixed desk.old).caller (N.known names.new) (N.asked names.old) (N.asked names.new) (D.front desk.old) (D.front desk.new) self.old self.new) }
+        ensures advances { OnOk result (Advances prog.now (D.fixed desk.old).caller (N.known names.old) (N.known names.new) (N.asked names.old) (N.asked names.new) (D.front desk.old) (D.front desk.new) self.old self.new) }
         ensures turns { IfOk result (λ turn. Turns turn self.old self.new) }
         ensures begun { IfOk result (λ turn. HasBegun turn self.old self.new) }
         ensures quiet { OnOk result (self.new.state.begun ≡ self.old.state.begun → D.front desk.new ≡ D.front desk.old) }
@@ -484,8 +484,8 @@ impl Machine {
         requires fine { IsFineMachine prog.now self.old }
         requires going { IsGoing self.old }
         requires holding { Holding (D.fixed desk.old).caller (self.old.state.made + 1) (frames_of self.old.frames.items) (D.front desk.old) }
-        requires own { IsOwnCache prog.now (N.known names.old) (N.asked names.old) (D.fixed desk.old).caller (D.front desk.old) self.old.state.cache }
-        ensures advances { OnOk result (Advances prog.now (D.fixed desk.old).caller (N.known names.new) (N.asked names.old) (N.asked names.new) (D.front desk.old) (D.front desk.new) self.old self.new) }
+        requires cache { IsTrueCache prog.now (N.known names.old) (N.asked names.old) (D.fixed desk.old).caller (D.front desk.old) self.old.state.cache }
+        ensures advances { OnOk result (Advances prog.now (D.fixed desk.old).caller (N.known names.old) (N.known names.new) (N.asked names.old) (N.asked names.new) (D.front desk.old) (D.front desk.new) self.old self.new) }
         ensures turns { IfOk result (λ turn. Turns turn self.old self.new) }
         ensures begun { IfOk result (λ turn. HasBegun turn self.old self.new) }
         ensures quiet { OnOk result (self.new.state.begun ≡ self.old.state.begun → D.front desk.new ≡ D.front desk.old) }
@@ -516,8 +516,8 @@ impl Machine {
         requires fine { IsFineMachine prog.now self.old }
         requires going { IsGoing self.old }
         requires holding { Holding (D.fixed desk.old).caller (self.old.state.made + 1) (frames_of self.old.frames.items) (D.front desk.old) }
-        requires own { IsOwnCache prog.now (N.known names.old) (N.asked names.old) (D.fixed desk.old).caller (D.front desk.old) self.old.state.cache }
-        ensures advances { OnOk result (Advances prog.now (D.fixed desk.old).caller (N.known names.new) (N.asked names.old) (N.asked names.new) (D.front desk.old) (D.front desk.new) self.old self.new) }
+        requires cache { IsTrueCache prog.now (N.known names.old) (N.asked names.old) (D.fixed desk.old).caller (D.front desk.old) self.old.state.cache }
+        ensures advances { OnOk result (Advances prog.now (D.fixed desk.old).caller (N.known names.old) (N.known names.new) (N.asked names.old) (N.asked names.new) (D.front desk.old) (D.front desk.new) self.old self.new) }
         ensures turns { IfOk result (λ turn. Turns turn self.old self.new) }
         ensures begun { IfOk result (λ turn. HasBegun turn self.old self.new) }
         ensures quiet { OnOk result (self.new.state.begun ≡ self.old.state.begun → D.front desk.new ≡ D.front desk.old) }

@@ -28,7 +28,7 @@ returns-clause-advances g c =
     let same = lent_same _ _ _ _ c.run-ended.ensures.stays.fixed in
     let name = same.0 in
     let door : c.run-ended.new.desk.desk.desk.now ≡ c.desk-1.given.0 = search rules in
-    subst (λ (d : g.row.D.Denot). OnOk c.run-ended.result (Advances c.args.prog.now (g.D.Desk.fixed c.args.desk.now).caller (g.N.Names.known c.run-ended.new.names) (g.N.Names.asked c.args.names.now) (g.N.Names.asked c.run-ended.new.names) (g.D.Desk.front c.args.desk.now) (g.D.Desk.front d) c.args.self.now c.run-ended.new.self)) door c.run-ended.ensures.advances
+    subst (λ (d : g.row.D.Denot). OnOk c.run-ended.result (Advances c.args.prog.now (g.D.Desk.fixed c.args.desk.now).caller (g.N.Names.known c.args.names.now) (g.N.Names.known c.run-ended.new.names) (g.N.Names.asked c.args.names.now) (g.N.Names.asked c.run-ended.new.names) (g.D.Desk.front c.args.desk.now) (g.D.Desk.front d) c.args.self.now c.run-ended.new.self)) door c.run-ended.ensures.advances
 
 pub returns-clause-quiet : goal.returns-clause-quiet
 returns-clause-quiet g c =

@@ -6,7 +6,7 @@ use Rattle.hb_eval.proofs.NotingLemmas.{advances_noted, noted_more}
 use Rattle.hb_eval.proofs.machine.Machine.run_with_journal.Goals as goal
 
 pub returns-clause-advances : goal.returns-clause-advances
-returns-clause-advances g c = advances_noted c.args.prog.now _ _ _ _ _ _ c.args.self.now c.run_noting.new.self c.note.new.self c.note.new.self.journal c.note.ensures.same c.in_ok-turn.ensures.advances
+returns-clause-advances g c = advances_noted c.args.prog.now _ _ _ _ _ _ _ c.args.self.now c.run_noting.new.self c.note.new.self c.note.new.self.journal c.note.ensures.same c.in_ok-turn.ensures.advances
 
 pub returns-clause-notes : goal.returns-clause-notes
 returns-clause-notes g c more done came kept =
