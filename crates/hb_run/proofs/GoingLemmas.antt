@@ -1,9 +1,7 @@
 -- A machine that goes on twice has gone on.
-use Rattle.std.proofs.Common.{◌≡◌, ℕ, ◌≤◌, List, [], ◌∷◌, ◌++◌, map, length, refl, sym, ap, ◌∙◌, subst, append_assoc, arith, Some}
+use Rattle.std.proofs.Common.{◌≡◌, ℕ, List, [], ◌∷◌, ◌++◌, map, refl, sym, ap, ◌∙◌, subst, append_assoc}
 use Rattle.std.proofs.lemmas.List.{append-nil, append_cancel_left, map-append}
-use Rattle.std.specs.Prelude.{slice_get}
-use Rattle.hb_names.specs.declared.names.TheConstants.{NAMES_MAX}
-use Rattle.hb_names.specs.Names.{Differ, Name}
+use Rattle.hb_names.specs.Names.{Name}
 use Rattle.hb_tree.specs.Table.{Table}
 use Rattle.hb_tables.specs.declared.entry.Entry.{Entry}
 use Rattle.hb_tables.specs.declared.entry.Act.{Act}
@@ -17,7 +15,7 @@ use Rattle.hb_eval.specs.declared.machine.Machine.{Machine}
 use Rattle.hb_eval.specs.Machines.{StandsFor, keeps}
 use Rattle.hb_eval.specs.State.{tagged}
 use Rattle.hb_eval.specs.Staying.{Stays}
-use Rattle.hb_run.specs.Going.{GoesOn, Went}
+use Rattle.hb_run.specs.Going.{Went}
 
 pub went_itself : (t : Table) (door : Fixed) (names asked : List Name) (log : List Entry) (m : Machine) → Went t door door names names asked asked log log m m
 went_itself t door names asked log m = record {

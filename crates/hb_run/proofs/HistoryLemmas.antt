@@ -1,13 +1,9 @@
 -- The keys of a history and the names that were asked for.
-use Rattle.std.proofs.Common.{◌≡◌, ◌⊎◌, inl, inr, ℕ, zero, suc, ◌<◌, ◌≤◌, List, [], ◌∷◌, ◌++◌, length, map, Option, Some, None, true, false, Bool, refl, sym, ap, ◌∙◌, subst, arith, append_assoc, rules}
+use Rattle.std.proofs.Common.{◌≡◌, ◌⊎◌, inl, inr, ℕ, zero, suc, ◌<◌, List, [], ◌∷◌, ◌++◌, length, Option, Some, None, true, false, Bool, refl, sym, ap, ◌∙◌, subst, arith, append_assoc, rules}
 use Rattle.std.specs.Prelude.{All, Contains, slice_get, slice_index_or, is_some, IsSome, cond, option_map, ◌==◌, if◌then◌else◌}
-use Rattle.std.proofs.lemmas.List.{append-nil}
 use Rattle.std.proofs.lemmas.List.Elements.{All-from_recursion, Contains-append_cases}
-use Rattle.std.specs.List.{AllByRecursion}
 use Rattle.hb_types.specs.declared.ids.NodeId.{NodeId}
-use Rattle.hb_types.specs.declared.ids.NameId.{NameId}
 use Rattle.hb_tree.specs.Table.{Table}
-use Rattle.hb_names.specs.declared.names.TheConstants.{NAMES_MAX}
 use Rattle.hb_names.specs.Names.{Name, Differ, place, with_name, same as same_name}
 use Rattle.hb_tables.specs.declared.entry.Act.{Act}
 use Rattle.hb_tables.specs.declared.entry.Act.TheVariants.{Hold, Free, Retype, Busy, WornType, Define, WornDef, Call}
@@ -16,17 +12,9 @@ use Rattle.hb_tables.specs.Frames.{acts}
 use Rattle.hb_tables.specs.History.{key_of, spot, entry, Every, FitsAct, IsLegal}
 use Rattle.hb_tables.proofs.HoldingLemmas.{holds_since}
 use Rattle.hb_tables.specs.Plain.{AreOwn}
-use Rattle.hb_call.specs.OwnCache.{IsOwnCache}
-use Rattle.hb_call.specs.Growth.{EachNew, Grown, asked_after, asked_by, with_found, with_key}
-use Rattle.hb_call.specs.Rules.{EntersBy, FitsRules}
-use Rattle.hb_eval.specs.Calls.{call_in}
-use Rattle.hb_eval.specs.Runs.{Run, script_run}
-use Rattle.hb_eval.specs.Told.{Told, told, told_by}
-use Rattle.hb_eval.specs.declared.machine.Machine.{Machine}
-use Rattle.hb_eval.specs.declared.script_run.ScriptRun.{ScriptRun}
-use Rattle.hb_eval.specs.Machines.{Finishes, StandsFor}
-use Rattle.hb_run.specs.Going.{RanAlone}
-use Rattle.hb_run.specs.History.{AreAllRuns, AreRuns, IsHistory, IsUsed, block_of, callers_from}
+use Rattle.hb_call.specs.Growth.{asked_after, asked_by, with_found, with_key}
+use Rattle.hb_call.specs.Rules.{FitsRules}
+use Rattle.hb_run.specs.History.{IsUsed}
 
 -- ── each name that was asked for is that of an act's key ──
 

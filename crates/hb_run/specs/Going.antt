@@ -1,8 +1,7 @@
 -- How a machine goes on.
-use Rattle.std.specs.Prelude.{◌≡◌, ◌≤◌, ℕ, List, [], ◌++◌, length, map}
+use Rattle.std.specs.Prelude.{◌≡◌, ℕ, List, ◌++◌, map}
 use Rattle.hb_tree.specs.Table.{Table}
-use Rattle.hb_names.specs.declared.names.TheConstants.{NAMES_MAX}
-use Rattle.hb_names.specs.Names.{Differ, Name}
+use Rattle.hb_names.specs.Names.{Name}
 use Rattle.hb_tables.specs.declared.entry.Entry.{Entry}
 use Rattle.hb_tables.specs.declared.entry.Act.{Act}
 use Rattle.hb_tables.specs.Answers.{Fixed}
