@@ -152,6 +152,14 @@ holding_apart c next frames old new h same p = record {
   none = λ q out. same q ∙ h.none q out;
 }
 
+-- What others do leaves it.
+pub holding_waits : (c next : ℕ) (frames : List Frame) (old new : List Entry) → Holding c next frames old → acts c new ≡ acts c old → IsPrefix old new → Holding c next frames new
+holding_waits c next frames old new h same p = holding_apart c next frames old new h (λ q. ap (standing q) same) p
+
+-- Where no call holds anything there are no frames.
+pub holding_empty : (c first : ℕ) (front : List Entry) → ((q : ℕ) → stands c q front ≡ []) → Holding c first [] front
+holding_empty c first front none = record { live = tt; rising = omega arith; none = λ q _. none q }
+
 pub holding_end : (c next : ℕ) (front : List Entry) → Holding c next [] front → (q : ℕ) → stands c q front ≡ []
 holding_end c next front h q = h.none q tt
 

@@ -14,6 +14,7 @@ pub mod ApplyLemmas
 pub mod ArgumentLemmas
 pub mod StayingLemmas
 pub mod NamedLemmas
+pub mod LongerLemmas
 pub mod NotingLemmas
 pub mod CallFuelLemmas
 pub mod CallExamples

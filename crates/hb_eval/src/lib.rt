@@ -8,6 +8,7 @@ mod calls;
 pub mod cont;
 pub mod framed;
 mod frames;
+pub mod laws;
 mod leaving;
 pub mod machine;
 mod methods;

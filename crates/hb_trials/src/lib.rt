@@ -13,6 +13,8 @@ pub mod desks;
 #[cfg(test)]
 mod hands;
 #[cfg(test)]
+mod journals;
+#[cfg(test)]
 mod own;
 #[cfg(test)]
 mod runs;

@@ -70,7 +70,7 @@ others_acts c d more old new apart came =
 
 -- what a machine stands for, it does for longer lists of names
 stands_longer : (t : Table) (names longer : List Name) (block steps : ℕ) (done : List (ℕ × Act)) (m : Machine) → IsPrefix names longer → StandsFor t names block steps done m → StandsFor t longer block steps done m
-stands_longer t names longer block steps done m more s = record { same = λ known from few journal. s.same known (prefix_more names longer known more from) few journal; counts = s.counts }
+stands_longer t names longer block steps done m more s = record { same = λ known from few journal. s.same known (prefix_more names longer known more from) few journal; counts = s.counts; journal = s.journal }
 
 -- a machine whose caller did nothing plays on
 pub plays_on : (t : Table) (steps c d : ℕ) (came : List Act) (names longer : List Name) (old new : List Entry) (done : List (ℕ × Act)) (m : Machine) → c ≢ d → Came c came old new → IsPrefix names longer → Plays t steps d names old done m → Plays t steps d longer new done m

@@ -1,4 +1,4 @@
-use Rattle.std.proofs.Common.{◌+◌, arith, inr, refl}
+use Rattle.std.proofs.Common.{arith, inr, refl}
 use Rattle.hb_eval.proofs.AdvanceLemmas.{begun_advances, none_begun, opened_advances, rest_last}
 use Rattle.hb_eval.proofs.GatheringLemmas.{shares_itself}
 use Rattle.hb_eval.proofs.StayingLemmas.{stays_itself}

@@ -1,7 +1,4 @@
-use Rattle.std.proofs.Common.{sym, subst}
-use Rattle.hb_types.specs.declared.ids.CallerId.{CallerId}
 use Rattle.hb_tables.specs.Frames.{acts}
-use Rattle.hb_eval.specs.Noting.{IsJournal, entries}
 use Rattle.hb_eval.proofs.NotingLemmas.{advances_noted, noted_more}
 use Rattle.hb_eval.proofs.machine.Machine.run_with_journal.Goals as goal
 
