@@ -148,6 +148,7 @@ def main(words):
         return 0
     if words[:1] == ["explain"]:
         return explain(words[1:])
+    # The file of each of these is read where it is wanted.
     if words[:1] == ["watch"]:
         return importlib.import_module("watch").main(words[1:], say, main)
     if words[:1] in (["new"], ["fmt"], ["lsp"]):

@@ -121,7 +121,8 @@ class Server:
             "textDocument/declaration": lambda params: self.declared(params, TYPES),
             "textDocument/documentSymbol": self.symbols, "textDocument/formatting": self.formatting}
         self.notices = {"textDocument/didOpen": self.opened, "textDocument/didChange": self.changed,
-                        "textDocument/didSave": self.saved, "textDocument/didClose": self.closed}
+                        "textDocument/didSave": lambda params: self.check(params["textDocument"]["uri"]),
+                        "textDocument/didClose": self.closed}
 
     def write(self, **message):
         body = json.dumps(dict(message, jsonrpc="2.0")).encode()
@@ -179,9 +180,6 @@ class Server:
     def changed(self, params):
         uri, text = params["textDocument"]["uri"], params["contentChanges"][-1]["text"]
         self.texts[uri] = document.Document(uri, text, self.in_bytes)
-
-    def saved(self, params):
-        self.check(params["textDocument"]["uri"])
 
     def closed(self, params):
         uri = params["textDocument"]["uri"]
@@ -280,14 +278,15 @@ def main(given, say):
 
 def serve(server, source):
     """Goes through the messages. Gives 0 where the editor asked for the end before it came, and else 1."""
-    with contextlib.suppress(EOFError):
-        while True:
-            try:
-                message = read_message(source)
-            except Failure as failure:
-                server.fail(None, failure)
-                continue
-            if isinstance(message, dict) and message.get("method") == "exit":
-                break
-            server.handle(message)
+    while True:
+        try:
+            message = read_message(source)
+        except Failure as failure:
+            server.fail(None, failure)
+            continue
+        except (EOFError, OSError):
+            break
+        if isinstance(message, dict) and message.get("method") == "exit":
+            break
+        server.handle(message)
     return 0 if server.is_down else NOT_SHUT_DOWN

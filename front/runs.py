@@ -15,7 +15,7 @@ class Runs:
     def __init__(self):
         self.program = os.environ.get("HBIRD") or str(LAUNCHER)
         self.options = [STEPS]
-        self.newest, self.lock, self.is_open = {}, threading.Lock(), True
+        self.running, self.lock, self.is_open = {}, threading.Lock(), True
 
     def run(self, name, source):
         """What the program writes on a text, and its status. In place of both, None and why there is no report."""
@@ -30,30 +30,32 @@ class Runs:
         with self.lock:
             if not self.is_open:
                 return None, "the server ends"
-            kill(self.newest.get(name))
+            self.end(name)
             try:
-                process = self.newest[name] = subprocess.Popen(
+                process = self.running[name] = subprocess.Popen(
                     [self.program, "run", *options], stdin=subprocess.PIPE, stdout=subprocess.PIPE,
                     stderr=subprocess.DEVNULL, start_new_session=True)
             except OSError as error:
                 return None, "%s: %s" % (self.program, error.strerror)
         try:
-            return process.communicate(source, timeout=SECONDS)[0], process.returncode
+            answer = process.communicate(source, timeout=SECONDS)[0], process.returncode
         except subprocess.TimeoutExpired:
-            return None, "no report came within a second, and the run was stopped"
-        finally:
-            kill(process)
+            answer = None, "no report came within a second, and the run was stopped"
+        with self.lock:
+            if self.running.get(name) is process:
+                self.end(name, is_over=answer[0] is not None)
+        return answer
+
+    def end(self, name, is_over=False):
+        """Forgets the run of a text, and where it is not over ends it with all that it has started."""
+        process = self.running.pop(name, None)
+        if process and not is_over:
+            with contextlib.suppress(OSError):
+                os.killpg(process.pid, signal.SIGKILL)
+            process.wait()
 
     def close(self):
         with self.lock:
             self.is_open = False
-            for process in self.newest.values():
-                kill(process)
-
-
-def kill(process):
-    """Ends a run with all that it has started, where it runs still."""
-    if process and process.poll() is None:
-        with contextlib.suppress(ProcessLookupError):
-            os.killpg(process.pid, signal.SIGKILL)
-        process.wait()
+            for name in list(self.running):
+                self.end(name)

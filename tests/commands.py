@@ -8,6 +8,8 @@ but --steps=N, and else writes its words and how long its input is.
 """
 import os
 import pty
+import re
+import select
 import signal
 import subprocess
 import sys
@@ -130,11 +132,12 @@ def saved(path, text):
     path.write_text(text)
 
 
-def awaited(read, wanted, most=20):
-    """What is read until it has the wanted part, or until so many seconds are over."""
+def awaited(terminal, wanted, most=20):
+    """What comes to a terminal until it has the wanted part, or until so many seconds are over."""
     found, until = "", time.monotonic() + most
     while wanted not in found and time.monotonic() < until:
-        found += read()
+        if select.select([terminal], [], [], 0.2)[0]:
+            found += os.read(terminal, 4096).decode()
     return found
 
 
@@ -146,23 +149,24 @@ def try_watch(room):
     env = dict(os.environ, HBIRD=str(room.program), TERM="xterm")
     process = subprocess.Popen([HB, "watch", "--steps=3", file.name], cwd=room.folder, env=env, stdout=theirs,
                                stderr=theirs, stdin=subprocess.DEVNULL)
-    os.close(theirs)
-    screens = awaited(lambda: os.read(ours, 4096).decode(), "run --steps=3 (1)\r\n")
+    screens = awaited(ours, "run --steps=3 (1)\r\n")
     for save, size in ((saved, 2), (replaced, 3), (saved, 4)):
         save(file, "#" * size)
-        screens += awaited(lambda: os.read(ours, 4096).decode(), "(%d)\r\n" % size)
+        screens += awaited(ours, "(%d)\r\n" % size)
     (room.folder / "other.hb").write_text("another file")
-    time.sleep(0.3)
+    screens += awaited(ours, "nothing", 0.5)
     process.send_signal(signal.SIGINT)
     status = process.wait(20)
+    os.close(theirs)
     os.close(ours)
-    shown = [screen.split("\r\n")[1] for screen in screens.split(watch.CLEAR)[1:]]
-    room.expect("hb watch", (shown, status), (["run --steps=3 (%d)" % size for size in (1, 2, 3, 4)], 130))
+    shown = [re.sub("at .{8};", "at TIME;", screen) for screen in screens.split(watch.CLEAR)]
+    due = ["==> my watched.hb at TIME; Ctrl-C ends <==\r\nrun --steps=3 (%d)\r\n" % size for size in (1, 2, 3, 4)]
+    room.expect("hb watch", (shown, status), ([""] + due, 130))
 
 
 def try_waiting(room):
     """Both ways to learn of a save, and that a change of the folder is told by the first."""
-    if not sys.platform.startswith("linux"):
+    if isinstance(watch.saves(room.folder / "a.hb"), watch.Stamps):
         print("check: skipped: this system does not tell what was saved")
         return
     for kind in (watch.Notices, watch.Stamps):

@@ -8,8 +8,9 @@ let s:closers = '\C\%()\|\<end\>\)'
 " Gives the place in a body an entry of its own, behind that of the call. A line has one entry at most by itself.
 function! hbird#Split(command) abort
   let l:is_local = a:command =~# '^l'
+  let l:entries = l:is_local ? getloclist(0) : getqflist()
   let l:found = []
-  for l:entry in l:is_local ? getloclist(0) : getqflist()
+  for l:entry in l:entries
     let l:parts = matchlist(l:entry.text, '\C^\(stop IllTyped .\{-1,}:\d\+:\d\+\) \(\a\+ .\+:\(\d\+\):\(\d\+\)\)$')
     if empty(l:parts)
       call add(l:found, l:entry)
@@ -19,7 +20,9 @@ function! hbird#Split(command) abort
       call add(l:found, extend(copy(l:entry), l:body))
     endif
   endfor
-  if l:is_local
+  if len(l:found) == len(l:entries)
+    return
+  elseif l:is_local
     call setloclist(0, [], "r", {"items": l:found})
   else
     call setqflist([], "r", {"items": l:found})
