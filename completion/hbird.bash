@@ -15,6 +15,14 @@ _hb_reply_anyhow() {
     done
 }
 
+# The options of a run. One with a value goes on behind its mark.
+_hb_options=(--order= --trace --steps= --versions=)
+
+_hb_reply_options() {
+    _hb_reply "$1" < <(printf '%s\n' "${@:2}")
+    [[ ${#COMPREPLY[@]} != 1 || ${COMPREPLY[0]} != *= ]] || compopt -o nospace 2>/dev/null
+}
+
 # The words of a report that may stand behind this one, with marks that the shell would read quoted: all first parts,
 # or the second parts of a word that has some.
 _hb_words() {
@@ -39,16 +47,16 @@ _hb_files() {
 }
 
 _hb() {
-    local typed=${COMP_WORDS[COMP_CWORD]} command="" option=--json
+    local typed=${COMP_WORDS[COMP_CWORD]} command="" options=(--json "${_hb_options[@]}")
     COMPREPLY=()
     ((COMP_CWORD == 1)) || command=${COMP_WORDS[1]}
-    [[ $command != fmt ]] || option=--check
+    [[ $command != fmt ]] || options=(--check)
     case $command in
         explain) _hb_reply_anyhow "$typed" < <(_hb_words "$1" "${COMP_WORDS[COMP_CWORD - 1]}") ;;
         help | lsp | new) ;;
         *)
             if [[ $typed == -* && " ${COMP_WORDS[*]:1:COMP_CWORD-1} " != *" -- "* ]]; then
-                _hb_reply "$typed" <<<"$option"
+                _hb_reply_options "$typed" "${options[@]}"
             else
                 [[ -n $command ]] || _hb_reply "$typed" < <(printf '%s\n' run watch new fmt lsp explain help)
                 _hb_files "$typed"
@@ -58,8 +66,13 @@ _hb() {
 }
 
 _hbird() {
+    local typed=${COMP_WORDS[COMP_CWORD]}
     COMPREPLY=()
-    ((COMP_CWORD > 1)) || _hb_reply "${COMP_WORDS[1]}" <<<run
+    if ((COMP_CWORD > 1)); then
+        _hb_reply_options "$typed" "${_hb_options[@]}"
+    else
+        _hb_reply "$typed" <<<run
+    fi
 }
 
 complete -F _hb hb

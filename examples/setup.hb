@@ -1,9 +1,16 @@
-# A setup would run before the scripts. Programs with one are read, and do not run yet.
+# The setup runs first and alone. The types and bodies that it gives, each script has.
+# Look at the counts: a check is kept by the one who made it, so each checks hi for itself.
 class A
 setup
-type A.hi : () -> Str
-def A.hi() "hi" end
+name = "setup"
+type A.hi : (Str) -> Str
+def A.hi(x) "hi " ++ x end
+print A.new.hi(name)
 end
-script main
-print A.new.hi
+script one
+print A.new.hi("bob")
+end
+script two
+print A.new.hi("ann")
+print A.new.hi("eve")
 end

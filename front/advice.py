@@ -1,9 +1,9 @@
 """What `hb` says beside a line of a report: more places to look at, and hints what to write instead.
 
-    advice.of(source, line) -> Advice(places, hints)
+    advice.of(source, line, section) -> Advice(places, hints)
 
 `source` is the text of the program as bytes, and `line` a line of the report as the program wrote it, without file
-names: `text Expected end 4:1`. All is found by reading the text. Where that does not tell, nothing is said.
+names: `text Expected end 4:1`; `section` is the line with which its section of the report begins. All is found by reading the text. Where that does not tell, nothing is said.
 """
 import re
 from typing import NamedTuple
@@ -38,7 +38,7 @@ class Advice(NamedTuple):
 NOTHING = Advice([], [])
 
 
-def of(source, line, run=None):
+def of(source, line, section=None, run=None):
     """The advice on a line of a report; nothing on most lines.
 
     With `run`, which gives the lines of the report of a text, a script is run again where reading does not tell what
@@ -49,7 +49,7 @@ def of(source, line, run=None):
         return NOTHING
     if notes[0].part == "text":
         return of_text(source, notes[0])
-    places, hints = stops.advice(source, line, notes, run)
+    places, hints = stops.advice(source, line, notes, section, run)
     return Advice([Place(*place) for place in places], hints)
 
 

@@ -13,9 +13,31 @@ def parted(words):
     return options, [word for word in words[:ends] if word not in options] + words[ends + 1:]
 
 
+def has_order(options):
+    """Whether the scripts take turns by an order. Then a shorter text has other turns."""
+    return any(option.startswith("--order") for option in options)
+
+
 def is_file(option):
     """Whether an option is rather meant as a file."""
     return option.endswith(".hb") or os.path.lexists(option)
+
+
+def values():
+    """What docs/FORMATS.md says of the values of the options that hbird takes, by their names."""
+    import pages
+    told = {words[0].strip("`").split()[0]: words[-1].replace("`", "") for words in pages.rows(pages.FORMATS, "Words")}
+    return {name: value for name, value in told.items() if name.startswith("--")}
+
+
+def of_value(option, value):
+    """What is said of an option that hbird knows and refuses."""
+    name, mark, given = option.partition("=")
+    if value == "none":
+        return "%s takes no value" % name
+    if not mark:
+        return "%s wants its value behind a =, as in %s=..: %s" % (name, name, value)
+    return "%s: the value of %s is %s" % (option, name, value)
 
 
 def of_option(option, known, command="hb"):
@@ -23,7 +45,7 @@ def of_option(option, known, command="hb"):
     if is_file(option):
         return "%s begins with a dash, so it is taken for an option; as a file it is named by %s -- %s" % (
             option, command, shlex.quote(option))
-    near = difflib.get_close_matches(option, known, 1, 0.75)
+    near = difflib.get_close_matches(option.partition("=")[0], known, 1, 0.75)
     return "there is no option %s; %s" % (option, "is it %s?" % near[0] if near else "hb help tells what there is")
 
 

@@ -19,6 +19,9 @@ HELP = """\
 hb runs programs of hbird from files, and shows where and why one stopped.
 
   hb [run] FILE..      runs each program; the file - is the standard input
+  hb --order=12 FILE.. lets the scripts take turns, here one of the first and
+                       one of the second; behind the script 9 comes a
+  hb --trace FILE..    shows behind the report each act at the tables, and why
   hb --json FILE..     gives each report as a JSON object on a line of its own
   hb watch FILE        runs it again on each save
   hb new NAME          writes a first program, and never over a file
@@ -30,22 +33,24 @@ hb runs programs of hbird from files, and shows where and why one stopped.
   hb --version         the version
 
 Programs to try stand in examples/, and docs/LANGUAGE.md teaches the language.
-Other options, as --NAME=VALUE, are handed to hbird. The status is that of
-hbird, and of several files the first that is not 0. Colours come only on a
-terminal, and never where NO_COLOR or INSIDE_EMACS says something, or TERM says
-dumb. HBIRD names another program to run.
+The options of hbird are handed to it: --order and --trace, --steps=N, which
+gives each script so many steps, and --versions=N, by which each type and each
+body may change so often. The status is that of hbird, and of several files the
+first that is not 0. Colours come only on a terminal, and never where NO_COLOR
+or INSIDE_EMACS says something, or TERM says dumb. HBIRD names another program
+to run.
 
 Statuses
 """
 
 STATUSES = [
-    (0, "each script ran to its end"),
-    (1, "the text is too long or no program, or of a form that does not run yet"),
+    (0, "the setup and each script ran to its end"),
+    (1, "the text is too long or no program"),
     (2, "the words ask for nothing"),
     (3, "memory ran out"),
     (4, "a read failed"),
     (5, "a write failed"),
-    (6, "a script stopped"),
+    (6, "the setup or a script stopped"),
     (7, "the process could not get its words"),
     (70, "there is no program that runs here, or hb finds no Python"),
 ]
@@ -131,8 +136,8 @@ def run_file(name, options, as_json, paint):
     if as_json:
         write([json.dumps(report.as_object(name, status, lines + [cut] * bool(cut)))])
     elif text is not None:
-        write(row for line in lines
-              for row in show.shown(line, name, text, paint, lambda part: lines_of(run(part, options)[0])))
+        again = None if command.has_order(options) else lambda part: lines_of(run(part, options)[0])
+        write(show.report_shown(lines, name, text, paint, again))
         # A last line without an end is not whole, and no line of a report.
         sys.stdout.buffer.write(cut.encode("utf-8", "surrogateescape"))
         write(show.remarked(text, paint) if status in (0, STOPPED) and not cut else [])
@@ -178,10 +183,14 @@ def run_files(words):
 
 
 def name_refused(options):
-    """Names the options that the program refuses each for itself, as on the empty text; else all of them."""
-    alone = [option for option in options if run(b"", [option])[1] == WRONG_WORDS]
-    for option in alone or options:
-        say(command.of_option(option, ["--json"]))
+    """Names the options that the program refuses each for itself, as on the empty text; else says that all are."""
+    alone, values = [option for option in options if run(b"", [option])[1] == WRONG_WORDS], command.values()
+    for option in alone:
+        value = values.get(option.partition("=")[0])
+        say(command.of_value(option, value) if value else command.of_option(option, ["--json", *values]))
+    if not alone:
+        say("hbird refuses these options together: %s; each stands once, and with --order or --trace there are at most "
+            "100,000 steps" % " ".join(options))
 
 
 def guarded(words):

@@ -34,6 +34,18 @@ def home(node):
     return None
 
 
+def root(node):
+    """The block of the setup or of the script in which a node stands."""
+    for outer in node.above():
+        node = outer
+    return node
+
+
+def scope(node):
+    """What has the variables of a node: the `def` in whose body it stands, or the block of its script or setup."""
+    return home(node) or root(node)
+
+
 def item_of(node):
     """The item of a script in which a node stands."""
     for outer in node.above():
@@ -77,10 +89,21 @@ class Known:
             return None
         if len(given) == 1:
             return given[0]
-        if item is None or not all(map(runs_once, given)) or any(contains(item, node) for node in given):
+        given = self.seen_by(item, given)
+        if not given or not all(map(runs_once, given)) or any(contains(item, node) for node in given):
             return None
         before = [node for node in given if node.first < item.first]
         return before[-1] if before else None
+
+    def seen_by(self, item, given):
+        """Those that can have run before an item, which are of its own script or of the setup; None where that is not
+        known, as another script may have come before or not."""
+        if item is None:
+            return None
+        own, setup = root(item), self.program.setup()
+        if own is setup:
+            return [node for node in given if root(node) is setup]
+        return given if all(root(node) in (own, setup) for node in given) else None
 
     def while_runs(self, node):
         """The item that runs when a node does: its own in a script, and else the one that led to this place."""
@@ -122,17 +145,17 @@ class Known:
 
     def type_of_variable(self, node):
         """The one type of all that is put into a variable; None where it has more than one."""
-        scope, name = home(node), node.token.text
-        if (scope, name) in self.asked:
+        owner, name = scope(node), node.token.text
+        if (owner, name) in self.asked:
             return None
-        self.asked.add((scope, name))
+        self.asked.add((owner, name))
         found = {self.type_of(other.parts[0]) for other in self.assigned
-                 if other.name.text == name and home(other) is scope}
-        for place, token in enumerate(scope.takes if scope else []):
+                 if other.name.text == name and scope(other) is owner}
+        for place, token in enumerate(owner.takes):
             if token.text == name:
-                own = self.own_type(scope)
-                found.add(own.takes[place].text if own and len(own.takes) == len(scope.takes) else None)
-        self.asked.discard((scope, name))
+                own = self.own_type(owner)
+                found.add(own.takes[place].text if own and len(own.takes) == len(owner.takes) else None)
+        self.asked.discard((owner, name))
         return found.pop() if len(found) == 1 else None
 
 

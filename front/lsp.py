@@ -85,13 +85,14 @@ def message_of(note):
 def diagnostics(text, out, status):
     """What an editor shows of a run. What is known at its places is kept with the text."""
     found, text.explained = [], []
-    for line in [] if out is None else out.decode("utf-8", "replace").split("\n"):
-        notes, more = report.notes_of(line), advice.of(text.source, line)
+    lines = [] if out is None else out.decode("utf-8", "replace").split("\n")
+    for line, section in report.with_sections(lines):
+        notes, more = report.notes_of(line), advice.of(text.source, line, section)
         marks = [(text.stretch(*note.place) if note.place else (1, 1, 1), message_of(note)) for note in notes]
         marks += [(text.stretch(place.line, place.column), place.label) for place in more.places]
         for note, mark in zip(notes, marks):
             message = "\n".join([mark[1], *("hint: " + hint for hint in more.hints)])
-            found.append(told(text, mark[0], INFORMATION if note.word == "NotYet" else ERROR, note.word, message))
+            found.append(told(text, mark[0], ERROR, note.word, message))
             found[-1]["relatedInformation"] = [
                 {"location": {"uri": text.uri, "range": text.range(*stretch)}, "message": label}
                 for stretch, label in marks if stretch is not mark[0]]

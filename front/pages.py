@@ -1,11 +1,11 @@
-"""Reads docs/ERRORS.md, which has a section for each word of a report."""
+"""Reads docs/ERRORS.md, which has a section for each word of a report, and tables of the other papers."""
 import functools
 import re
 import textwrap
 from pathlib import Path
 
 DOCS = Path(__file__).resolve().parent.parent / "docs"
-PAGE, LANGUAGE = DOCS / "ERRORS.md", DOCS / "LANGUAGE.md"
+PAGE, LANGUAGE, FORMATS = DOCS / "ERRORS.md", DOCS / "LANGUAGE.md", DOCS / "FORMATS.md"
 # The parts of the page that speak of stops, of reasons and of a report's other words; all others speak of texts.
 PARTS = {"Stops": "stop", "Reasons": "reason", "The report": "report"}
 

@@ -32,14 +32,26 @@ def notes_of(line):
     return []
 
 
+def with_sections(lines):
+    """The lines of a report, each with the line with which its section begins, or None in front of all."""
+    section = None
+    for line in lines:
+        if SECTION.fullmatch(line):
+            section = line
+        yield line, section
+
+
 def place_of(texts):
     return None if texts[0] is None else tuple(int(text) for text in texts)
 
 
 def as_object(file, status, lines):
     """The report as one object for JSON. Lines that are none of a report stand in `other`, as they are."""
-    found = {"file": file, "status": status, "fault": None, "sections": [], "other": []}
+    found = {"file": file, "status": status, "fault": None, "sections": [], "trace": None, "other": []}
     current = None
+    if "trace" in lines:
+        ends = lines.index("trace")
+        lines, found["trace"] = lines[:ends], lines[ends + 1:]
     for line in lines:
         started, notes = SECTION.fullmatch(line), notes_of(line)
         if started:

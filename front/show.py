@@ -32,8 +32,20 @@ class Paint:
         return "\x1b[%sm%s\x1b[0m" % (self.CODES[kind], text) if self.wanted else text
 
 
-def shown(line, name, source, paint, run=None):
-    """The lines that stand for one line of the program's: itself where nothing of it is known."""
+def report_shown(lines, name, source, paint, run=None):
+    """The lines that stand for those of a report, and of the trace behind it."""
+    ends = lines.index("trace") if "trace" in lines else len(lines)
+    for line, section in report.with_sections(lines[:ends]):
+        yield from shown(line, name, source, paint, section, run)
+    if ends < len(lines):
+        # What a run without a trace does not need is not read for it.
+        import acts
+        yield lines[ends]
+        yield from acts.shown(lines[ends + 1:], name, source, paint)
+
+
+def shown(line, name, source, paint, section=None, run=None):
+    """The lines that stand for one line of a report: itself where nothing of it is known."""
     notes = report.notes_of(line)
     if line == "done":
         return [paint("good", line)]
@@ -41,7 +53,7 @@ def shown(line, name, source, paint, run=None):
         return [line]
     # What a run without a fault does not need is not read for it.
     import advice
-    more = advice.of(source, line, run)
+    more = advice.of(source, line, section, run)
     marks = [Mark(note.place, "^ " + note.word if number else "^", "bad") for number, note in enumerate(notes)]
     marks += [Mark((place.line, place.column), "^ " + place.label, "also") for place in more.places]
     return [headline(line, name, paint)] + excerpt(marks, source, paint) + meaning(notes, more.hints, paint)

@@ -15,8 +15,10 @@ WORDS = sorted(word for word in tokens.KEYWORDS if len(word) > 2)
 class Stop:
     """A node at which something went wrong, and the advice on it so far."""
 
-    def __init__(self, source, facts, node):
+    def __init__(self, source, facts, node, block):
         self.source, self.facts, self.node = source, facts, node
+        # That of the script, or the setup, which stopped; None where that is not known.
+        self.block = block
         self.places, self.hints = [], []
 
     def mark(self, token, label):
@@ -118,8 +120,8 @@ def missing(stop, nodes, word):
     own = [node for node in exact if node.owner.text == owner]
     if own:
         stop.mark(own[0].token, "has not run yet")
-        stop.say("The `%s` of line %d stands behind the call." % (word, own[0].token.line)
-                 if is_later(stop, own[0]) else "")
+        stop.say("The `%s` of line %d stands %s." % (word, own[0].token.line, where_it_is(stop, own[0]))
+                 if where_it_is(stop, own[0]) else "")
     elif exact and owner:
         stop.mark(exact[0].owner, "this one is of %s" % exact[0].owner.text)
         stop.say("The object is of the class %s." % owner)
@@ -127,9 +129,15 @@ def missing(stop, nodes, word):
         unknown(stop, [node for node in nodes if owner in (None, node.owner.text)], word)
 
 
-def is_later(stop, node):
-    """Whether a node stands in the script, behind the one at which it stops."""
-    return known.runs_once(node) and known.home(stop.node) is None and node.first > stop.node.last
+def where_it_is(stop, node):
+    """Where a node stands that has not run yet, if that says why: in another script, or behind the call."""
+    if not known.runs_once(node) or stop.block is None:
+        return ""
+    if stop.block is stop.facts.program.setup() is not known.root(node):
+        return "in a script, and the setup runs before all scripts"
+    if known.root(node) is not stop.block:
+        return "in another script, which has not come to it"
+    return "behind the call" if known.home(stop.node) is None and node.first > stop.node.last else ""
 
 
 def unknown(stop, nodes, word):
@@ -259,20 +267,25 @@ def gives_nil(stop, call):
 def unbound(stop):
     """A variable has no value."""
     name, scope, facts = stop.node.token.text, known.home(stop.node), stop.facts
-    own = [node for node in facts.assigned if node.name.text == name and known.home(node) is scope]
+    same = [node for node in facts.assigned if node.name.text == name]
+    own = [node for node in same if known.scope(node) is known.scope(stop.node)]
     methods = [node for node in facts.bodies + facts.types if known.method_of(node) == name]
-    outside = [node for node in facts.assigned if node.name.text == name and known.home(node) is None]
+    outside = [node for node in same if known.home(node) is None]
     if own:
         stop.mark(own[0].token, "may not run" if scope else "has not run yet")
     elif scope and outside:
         stop.mark(outside[0].token, "a variable of the script")
         stop.say("A body does not see the variables of the script. Instead: a parameter, and an argument for it.")
+    elif outside:
+        whose = "the setup" if known.root(outside[0]) is facts.program.setup() else "another script"
+        stop.mark(outside[0].token, "a variable of " + whose)
+        stop.say("The setup and each script have variables of their own. Instead: a method that gives the value.")
     elif methods and scope and methods[0].owner.text == scope.owner.text:
         stop.say("A call names its object. Instead: `self.%s`." % name)
     elif methods:
         stop.say("A call names its object. Instead: `%s.new.%s`." % (methods[0].owner.text, name))
     else:
-        names = [node.name.text for node in facts.assigned if known.home(node) is scope]
+        names = [node.name.text for node in facts.assigned if known.scope(node) is known.scope(stop.node)]
         names += [token.text for token in scope.takes] if scope else []
         stop.say(foreign.hint(name) or near.question(name, names + WORDS))
 
@@ -322,15 +335,22 @@ def busy(stop):
     facts, node = stop.facts, stop.node
     method = known.method_of(node)
     scope = known.home(node)
-    if method is None or scope is None:
-        return
+    if scope is None:
+        # What a script itself does it does with none of its calls open.
+        others = len(facts.program.blocks) > 1
+        return stop.say("A call of another script uses the type, and `--trace` shows which." if others else "")
+    if method is None or stop.block is None:
+        return None
     others = [other for other in facts.of_method(facts.types, node.owner.text, method) if other is not node]
-    calls = led.calls_to(facts.program, scope)
+    if any(known.root(other) not in (stop.block, facts.program.setup()) for other in others):
+        return None
+    calls = led.calls_to(facts.program, scope, stop.block)
     first = calls and known.item_of(calls[0])
     alone = first is facts.item and sum(known.item_of(call) is first for call in calls) == 1
     if len(others) == 1 and known.method_of(others[0]) and known.runs_once(others[0]) and alone and \
             others[0].first < first.first and not any(part.kind == "while" for part in first.walk()):
         stop.mark_type(others[0])
+    return None
 
 
 CALL, VARIABLE, EVERY = ("call",), ("variable",), ()
@@ -366,15 +386,16 @@ def node_at(program, place):
     return None
 
 
-def advice(source, line, notes, run=None):
-    """The places, as lines, columns and labels, and the hints on a stop."""
+def advice(source, line, notes, section=None, run=None):
+    """The places, as lines, columns and labels, and the hints on a stop that stands in this section of a report."""
     program = tree.program(source)
     node = program and node_at(program, notes[0].place)
     if not node:
         return [], []
     inside = known.home(node) is not None
-    item = led.item(program, source, node, line, run) if inside else known.item_of(node)
-    stop = Stop(source, known.Known(program, item), node)
+    block = program.block(section) if inside else known.root(node)
+    item = block and led.item(program, source, node, line, block, run) if inside else known.item_of(node)
+    stop = Stop(source, known.Known(program, item), node, block)
     for note in notes:
         at = node_at(program, note.place)
         kinds, rule = RULES.get((note.part, note.word), ((), None))

@@ -49,13 +49,24 @@ class Node:
 
 
 class Program:
-    """The tokens of a program, the tokens of its classes' names, and the blocks of its setup and scripts."""
+    """The tokens of a program, the tokens of its classes' names, and the blocks of its setup and scripts.
 
-    def __init__(self, found, classes, blocks):
-        self.tokens, self.classes, self.blocks = found, classes, blocks
+    `sections` has the line with which each one's part of a report begins.
+    """
+
+    def __init__(self, found, classes, blocks, sections):
+        self.tokens, self.classes, self.blocks, self.sections = found, classes, blocks, sections
 
     def nodes(self):
         return (node for block in self.blocks for node in block.walk())
+
+    def block(self, section):
+        """The block of the section of a report; None where there is none, and of one script alone its own."""
+        found = [block for block, name in zip(self.blocks, self.sections) if name == section]
+        return found[0] if found else self.blocks[0] if len(self.blocks) == 1 else None
+
+    def setup(self):
+        return self.block("setup") if self.sections[:1] == ["setup"] else None
 
 
 class Reader:
@@ -95,20 +106,20 @@ class Reader:
         return node
 
     def program(self):
-        classes, blocks = [], []
+        classes, blocks, sections = [], [], []
         self.separators()
         while self.sees("class"):
             self.due("class")
             classes.append(self.take("class"))
             self.separators()
         while self.sees("script") or self.sees("setup") and not blocks:
-            if self.due("setup", "script").text == "script":
-                self.take("name")
+            is_script = self.due("setup", "script").text == "script"
+            sections.append("script " + self.take("name").text if is_script else "setup")
             blocks.append(self.block("end"))
             self.due("end")
             self.separators()
         self.take("end")
-        return Program(self.tokens, classes, blocks)
+        return Program(self.tokens, classes, blocks, sections)
 
     def block(self, *ends):
         """A block up to its own token, which is left."""

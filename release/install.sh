@@ -14,7 +14,7 @@ each_file() {
     local file
     echo "755 ${program-none} lib/hbird/hbird"
     echo "755 hb lib/hbird/hb"
-    for file in VERSION release/needs docs/ERRORS.md docs/LANGUAGE.md $(find front -name __pycache__ -prune -o -type f -print); do
+    for file in VERSION release/needs docs/ERRORS.md docs/LANGUAGE.md docs/FORMATS.md $(find front -name __pycache__ -prune -o -type f -print); do
         echo "644 $file lib/hbird/$file"
     done
     echo "link ../lib/hbird/hb bin/hb"

@@ -90,6 +90,8 @@ check_program() {
         part check "the examples and the recordings" python3 tests/examples.py "$program"
         part check "the programs of docs/ERRORS.md" python3 tests/errors.py "$program"
         part check "hints" python3 tests/hints.py "$program"
+        part check "lists of words" python3 tests/words.py "$program"
+        part check "scripts by turns" python3 tests/turns.py "$program"
     fi
 }
 

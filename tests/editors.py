@@ -42,7 +42,7 @@ GROUPS = {
 # What hb writes, and the places to which an editor goes: file, line, column. Where a body is ill typed, the first one
 # is the call's.
 TOLD = ["==> a.hb <==", "script main", "> stop Busy b.hb:7:7", "stop NilValue a.hb:5:14", "  5 | x.m", "    |   ^",
-        "calls 1 own 0 shared 0 fresh 1", "text Expected end a.hb:2:12", "text NotYet",
+        "calls 1 own 0 shared 0 fresh 1", "text Expected end a.hb:2:12", "text TooLong",
         "stop IllTyped a.hb:9:13 Result a.hb:6:18", "stop Busy my a.hb:5:6", "text TooMany calls my a.hb:2:1",
         "text BadByte my a.hb:2:3", "text Expected ) my a.hb:2:4", "stop IllTyped my a.hb:9:13 NoType my a.hb:6:18"]
 PLACES = [("a.hb", 5, 14), ("a.hb", 2, 12), ("a.hb", 9, 13), ("a.hb", 6, 18), ("my a.hb", 5, 6), ("my a.hb", 2, 1),

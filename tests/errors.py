@@ -4,7 +4,8 @@
 
 A section has a wrong program, the line that is printed, the mended program,
 and what that prints where it prints a little. In place of a program a command
-of the shell may stand, which writes it. The words of every report have a
+of the shell may stand, which writes it. A program that is an example is run
+with that one's options, and so is the mended one. The words of every report have a
 program for all of them, with its report.
 """
 import subprocess
@@ -12,7 +13,7 @@ import sys
 
 from markdown import ROOT, sections
 
-WORDS = """TooLong NotYet BadByte OpenText BadEscape BigNumber LongName LongLiteral
+WORDS = """TooLong BadByte OpenText BadEscape BigNumber LongName LongLiteral
     UnknownClass TwiceClass TwiceScript TwiceParam TooDeep
     NilValue BadOperand NoBody NoType BadArgs IllTyped Overflow LongText OutputFull Busy BadName Deep Full Worn Steps
     Unbound NoSelf
@@ -21,9 +22,8 @@ WORDS += ["Expected " + word for word in "end then do ) expression name type cla
 WORDS += ["TooMany " + word for word in
           "classes scripts nodes types body calls variables parameters arguments".split()]
 
-# These share a program, and to the last one no program comes within the limits of a run.
-OF_EACH_REPORT = "script done stop text calls own shared fresh".split()
-WITHOUT_PROGRAM = OF_EACH_REPORT + ["Worn"]
+# These share a program.
+OF_EACH_REPORT = "setup script done stop text calls own shared fresh trace".split()
 SHAPE = ["program", "text", "program"]
 
 
@@ -31,12 +31,18 @@ def is_program(block):
     return block.language in ("hbird", "sh")
 
 
-def run(program, block):
+def options(block):
+    """The options of the example that a block shows."""
+    words = (ROOT / (block.file or "")).with_suffix(".words")
+    return words.read_text().split() if block.file and words.exists() else []
+
+
+def run(program, block, words=()):
     """What the program writes, as lines, and its status, on the text that a block has or makes."""
     text = block.text.encode()
     if block.language == "sh":
         text = subprocess.run(["bash", "-c", block.text], stdout=subprocess.PIPE, check=True).stdout
-    done = subprocess.run([program, "run"], input=text, stdout=subprocess.PIPE)
+    done = subprocess.run([program, "run", *words], input=text, stdout=subprocess.PIPE)
     return done.stdout.decode().splitlines(), done.returncode
 
 
@@ -48,12 +54,12 @@ def wrongs(program, section):
         return
     wrong, told, mended, *printed = section.blocks
     line = told.text.rstrip("\n")
-    lines, status = run(program, wrong)
+    lines, status = run(program, wrong, options(wrong))
     if line not in lines or status != (1 if line.startswith("text ") else 6):
         yield "%r is due, and %r came with status %d" % (line, lines[-2:], status)
     if " %s " % section.title not in line + " ":
         yield "the line has another word"
-    lines, status = run(program, mended)
+    lines, status = run(program, mended, options(wrong))
     if status != 0:
         yield "the mended program ends with %r and status %d" % (lines[-2:], status)
     elif printed and [each for each in lines if each.startswith("> ")] != printed[0].text.splitlines():
@@ -74,7 +80,7 @@ def main():
     told = [(section.title, message) for section in all_sections if section.title == "The report"
             for message in wrong_report(sys.argv[1], section)]
     told += [(section.title, message) for section in words
-            if section.blocks or section.title not in WITHOUT_PROGRAM
+            if section.blocks or section.title not in OF_EACH_REPORT
             for message in wrongs(sys.argv[1], section)]
     titles = [section.title for section in words]
     due = WORDS + OF_EACH_REPORT

@@ -3,7 +3,8 @@
     python3 tests/examples.py [--write] PATH_TO_HBIRD
 
 Beside examples/NAME.hb stands its report, NAME.out, or only the last lines of
-a long one, NAME.tail; and NAME.status where the status is not 0. A recording
+a long one, NAME.tail; NAME.status where the status is not 0; and NAME.words
+with the options of its run where it has some. A recording
 is a block `console` of README.md, with commands behind `$ `. With --write the
 reports are written anew, to be read as a diff.
 """
@@ -19,8 +20,14 @@ PROGRAM = os.path.abspath(sys.argv[-1])
 TAIL, LONG = 2, 65536
 
 
+def options(text):
+    """The options with which an example is run."""
+    words = text.with_suffix(".words")
+    return words.read_text().split() if words.exists() else []
+
+
 def run(text):
-    done = subprocess.run([PROGRAM, "run"], stdin=text.open(), stdout=subprocess.PIPE)
+    done = subprocess.run([PROGRAM, "run", *options(text)], stdin=text.open(), stdout=subprocess.PIPE)
     return done.stdout.decode(), done.returncode
 
 

@@ -110,7 +110,7 @@ def runs_alike(program, text, due):
     if before != after:
         return "%r: its report %r becomes %r" % (text, before, after)
     # A text that is no program would say little; a few pass a limit.
-    return None if before[1] in (0, 6) or before[0].startswith((b"text NotYet", b"text TooMany")) else (
+    return None if before[1] in (0, 6) or before[0].startswith(b"text TooMany") else (
         "%r: the program says %r" % (text, before))
 
 
@@ -120,7 +120,7 @@ def is_refused_rightly(program, text):
     try:
         fmt.formatted(text)
     except fmt.Unfit as unfit:
-        if not told.startswith(b"text ") or told == b"text NotYet\n":
+        if not told.startswith(b"text "):
             return "%r: %s, and the program says %r" % (text, unfit, told)
         return None
     return "%r: %r is not seen" % (text, told) if re.match(b"text (BadByte|BadEscape|OpenText)", told) else None

@@ -39,7 +39,7 @@ TABLE = [
     # what is not understood goes through as it came
     ("a.hb", REPORT, 0, REPORT, 0, ""),
     ("a.hb", "trace\n0 call 1 A.f 3:1 () enter own\n\n", 0, "trace\n0 call 1 A.f 3:1 () enter own\n\n", 0, ""),
-    ("a.hb", "> stop Busy 1:1\n> text NotYet\n", 0, "> stop Busy 1:1\n> text NotYet\n", 0, ""),
+    ("a.hb", "> stop Busy 1:1\n> text TooLong\n", 0, "> stop Busy 1:1\n> text TooLong\n", 0, ""),
     ("a.hb", "stop busy 1:1\nstop Busy 1\n stop Busy 1:1\n", 6, "stop busy 1:1\nstop Busy 1\n stop Busy 1:1\n", 6, ""),
     ("a.hb", "words refused\n", 2, "words refused\n", 2, ""),
     ("a.hb", "script s\n> cut he", 5, "script s\n> cut he", 5, ""),
@@ -122,7 +122,7 @@ OBJECTS = [
          {"section": "script", "name": "s", "prints": ["x"], "end": None, "calls": None}]}),
     ("text Expected end 2:12\n", 1,
      {"fault": {"kind": "Expected end", "line": 2, "column": 12}, "sections": [], "other": []}),
-    ("text NotYet\n", 1, {"fault": {"kind": "NotYet", "line": None, "column": None}, "sections": [], "other": []}),
+    ("text TooLong\n", 1, {"fault": {"kind": "TooLong", "line": None, "column": None}, "sections": [], "other": []}),
     ("words refused\n", 2, {"fault": None, "sections": [], "other": ["words refused"]}),
 ]
 
@@ -169,7 +169,7 @@ def try_json(room):
     for writes, ends, due in OBJECTS:
         out, _, status = room.run("--json a.hb", writes, ends)
         room.expect("hb --json on %r" % writes, (json.loads(out), status), (dict(due, file="a.hb", status=ends), ends))
-    out, _, status = room.run("a.hb nosuch.hb --json", "text NotYet\n", 1)
+    out, _, status = room.run("a.hb nosuch.hb --json", "text TooLong\n", 1)
     room.expect("hb --json of two files", [json.loads(line)["status"] for line in out.splitlines()], [1, 4])
 
 

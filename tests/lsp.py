@@ -177,7 +177,7 @@ ANSWERS = [
     ("", []), ("echo 'stop Newer 2:7'; exit 6", [(1, 6, 9, "Newer", 1)]),
     ("echo 'text Expected end 4:1'; exit 1", [(3, 0, 0, "Expected end", 1)]),
     ("echo 'text Expected ) 2:10'; exit 1", [(1, 9, 9, "Expected )", 1)]),
-    ("echo 'text TooLong'; exit 1", [(0, 0, 0, "TooLong", 1)]), ("echo 'text NotYet'; exit 1", [(0, 0, 0, "NotYet", 3)]),
+    ("echo 'text TooLong'; exit 1", [(0, 0, 0, "TooLong", 1)]),
     ("echo 'stop Busy 99:1'; exit 6", [(3, 0, 0, "Busy", 1)]),
     ("exit 3", [(0, 0, 0, "hb", 3)]), ("kill -9 $$", [(0, 0, 0, "hb", 3)]),
 ]
@@ -233,7 +233,7 @@ def try_saves(room):
     """A save runs the text anew, and ends a run of it that is under way; so does the server's end."""
     client = Client(room)
     client.start()
-    client.open("# echo 'text NotYet'; exit 1\n")
+    client.open("# echo 'text TooLong'; exit 1\n")
     item = {"uri": "file:///a.hb"}
     client.tell("textDocument/didChange", textDocument=item, contentChanges=[
         {"text": "# %s\n" % ENDLESS[1]}])
@@ -434,7 +434,7 @@ def try_program(room):
         due = [(word, int(line) - 1, int(column) - 1) for end in ends
                for word, line, column in re.findall(r"([A-Z]\w*) (\d+):(\d+)", end)]
         shown = client.open(file.read_text(), "file:///%s" % file.name)
-        found = [(one["code"], *places([one])[0][:2]) for one in shown if one["code"] != "NotYet"]
+        found = [(one["code"], *places([one])[0][:2]) for one in shown]
         room.expect("what is shown of %s" % file.name, found, due)
         item = {"uri": "file:///%s" % file.name}
         room.expect("formatting of %s" % file.name, client.ask("textDocument/formatting", textDocument=item), [])

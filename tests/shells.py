@@ -39,6 +39,9 @@ ROWS = [
     ("hb fmt --js\t", "<fmt><--js>"), ("hb fold\tins\t", "<folder/inside.hb>"), ("hb run Over\tx\t", "<run><Overflow/x.hb>"),
     ("hb no\t", "<no>"), ("hb -- -d\t", "<--><-dash.hb>"), ("hb -- --js\t", "<--><--js>"), ("hbird \t", "<run>"),
     ("hbird run my\t", "<run><my>"), ("hb lsp fol\t", "<lsp><fol>"),
+    ("hb --ord\t12 my\t", "<--order=12><my file.hb>"), ("hb run --tr\tmy\t", "<run><--trace><my file.hb>"),
+    ("hb --st\t9 --ver\t3 my\t", "<--steps=9><--versions=3><my file.hb>"), ("hbird run --or\t12", "<run><--order=12>"),
+    ("hbird run --tr\t--st\t7", "<run><--trace><--steps=7>"), ("hb fmt --tr\t", "<fmt><--tr>"),
 ]
 
 SHELLS = {
