@@ -4,7 +4,7 @@
 
 A row has the words for hb, what it writes, its status, and what it says on
 standard error. In place of hbird stands a program that refuses each option
-but --steps=N, and else writes its words and how long its input is.
+but one --steps=N, and else writes its words and how long its input is.
 """
 import os
 import pty
@@ -25,6 +25,7 @@ import watch  # noqa: E402
 
 PICKY = """#!/bin/sh
 input=$(wc -c)
+case "$*" in *--steps*--steps*) echo "words refused"; exit 2 ;; esac
 for word; do
     case $word in run | --steps=*) ;; *) echo "words refused"; exit 2 ;; esac
 done
@@ -45,8 +46,16 @@ ROWS = [
     ("run - < a.hb", "run (32)\n", 0, ""), ("run run", "run (2)\n", 0, ""), ("-- run", "run (2)\n", 0, ""),
     ("run nosuch.hb", "", 4, "nosuch.hb: No such file or directory\n"),
     ("run", "", 2, "no file is named; hb help tells what hb does\n"),
-    ("run --json a.hb", '{"file": "a.hb", "status": 0, "fault": null, "sections": [], "other": ["run (32)"]}\n', 0, ""),
+    ("run --json a.hb", '{"file": "a.hb", "status": 0, "fault": null, "sections": [], "trace": null, "other": ["run (32)"]}\n', 0, ""),
     # a wrong option
+    ("--order=h a.hb", "words refused\n", 2,
+     "--order=h: the value of --order is 1 to 10,000 characters, each one of 1 to 9 and a to g\n"),
+    ("--versions a.hb", "words refused\n", 2, "--versions wants its value behind a =, as in --versions=..: "
+     "1 to 16,777,215, which is what holds without the option\n"),
+    ("--trace=1 a.hb", "words refused\n", 2, "--trace takes no value\n"),
+    ("--oder=12 a.hb", "words refused\n", 2, "there is no option --oder=12; is it --order?\n"),
+    ("--steps=3 a.hb --steps=4", "words refused\n", 2, "hbird refuses these options together: --steps=3 --steps=4; each "
+     "stands once, and with --order or --trace there are at most 100,000 steps\n"),
     ("--jsno a.hb", "words refused\n", 2, "there is no option --jsno; is it --json?\n"),
     ("run a.hb -json", "words refused\n", 2, "there is no option -json; is it --json?\n"),
     ("--steps=3 a.hb --quick", "words refused\n", 2, "there is no option --quick; hb help tells what there is\n"),
@@ -98,7 +107,7 @@ ROWS = [
     ("watch", "", 2, "hb watch takes one file\n"), ("watch a.hb run", "", 2, "hb watch takes one file\n"),
     ("watch - < a.hb", "", 2, "hb watch takes one file\n"),
     ("watch --json nosuch.hb | cat; exit ${PIPESTATUS[0]}",
-     '{"file": "nosuch.hb", "status": 4, "fault": null, "sections": [], "other": []}\n', 4,
+     '{"file": "nosuch.hb", "status": 4, "fault": null, "sections": [], "trace": null, "other": []}\n', 4,
      "nosuch.hb: No such file or directory\n"),
 ]
 

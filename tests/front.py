@@ -25,6 +25,8 @@ FILES = {
     "strange.hb": b"\x1b[31m\xff 1\n",
     "my file.hb": b"script s\nx\nend\n",
     "-dash.hb": b"x\n",
+    "busy.hb": b"class A\nscript one\nend\nscript two\ntype A.f : () -> Int\nend\n",
+    "two.hb": b"class A\nscript one\nend\nscript two\nend\n",
 }
 
 # Stands for the program: it writes its words and the input's length where a row asks for them.
@@ -38,7 +40,7 @@ REPORT = "script s\n> 1\ndone\ncalls 1 own 0 shared 0 fresh 1\n"
 TABLE = [
     # what is not understood goes through as it came
     ("a.hb", REPORT, 0, REPORT, 0, ""),
-    ("a.hb", "trace\n0 call 1 A.f 3:1 () enter own\n\n", 0, "trace\n0 call 1 A.f 3:1 () enter own\n\n", 0, ""),
+    ("a.hb", "trace\n0 calls 1 A.f 3:1 () enter own\n\n", 0, "trace\n0 calls 1 A.f 3:1 () enter own\n\n", 0, ""),
     ("a.hb", "> stop Busy 1:1\n> text TooLong\n", 0, "> stop Busy 1:1\n> text TooLong\n", 0, ""),
     ("a.hb", "stop busy 1:1\nstop Busy 1\n stop Busy 1:1\n", 6, "stop busy 1:1\nstop Busy 1\n stop Busy 1:1\n", 6, ""),
     ("a.hb", "words refused\n", 2, "words refused\n", 2, ""),
@@ -95,6 +97,75 @@ stop Unbound my file.hb:2:1
   Unbound: The variable has no value yet.
   (hb explain Unbound)
 """, 6, ""),
+    # a type that another script's call holds
+    ("busy.hb", "script two\nstop Busy 5:1\n", 6, """\
+script two
+stop Busy busy.hb:5:1
+  5 | type A.f : () -> Int
+    | ^
+  Busy: The type of this method is in use by a call that still runs.
+  hint: A call of another script uses the type, and `--trace` shows which.
+  (hb explain Busy)
+""", 6, ""),
+    # a trace, with why an act came as it did
+    ("two.hb", "trace\n2 call 1 A.f 3:1 (Int,A) IllTyped Loop 4:7\n2 call 2 A.f none () NoBody\n", 6,
+     "trace\n2 call 1 A.f two.hb:3:1 (Int,A) IllTyped Loop two.hb:4:7\n2 call 2 A.f none () NoBody\n", 6, ""),
+    ("two.hb", """\
+trace
+1 hold 1 A.f 1:1 1
+1 hold 1 A.g 1:2 1
+2 busy A.g 1
+2 def A.f 3:1
+1 free 1 A.g
+1 call 1 A.f 3:1 () enter fresh
+1 free 1 A.f
+""", 0, """\
+trace
+1 hold 1 A.f two.hb:1:1 1
+1 hold 1 A.g two.hb:1:2 1
+2 busy A.g 1
+  why: the type of A.g is in use by call 1 of script one (A.f)
+2 def A.f two.hb:3:1
+1 free 1 A.g
+  why: a newer body of script two came before call 1 of script one (A.f) was decided, which goes on with that
+1 call 1 A.f two.hb:3:1 () enter fresh
+1 free 1 A.f
+""", 0, ""),
+    ("two.hb", """\
+trace
+1 hold 1 A.f 1:1 1
+1 call 1 A.f 3:1 () enter fresh
+1 free 1 A.f
+2 def A.f 3:1
+0 type A.f 1:2
+2 type A.f 1:3
+1 hold 2 A.f 1:3 3
+1 call 2 A.f 3:1 () enter fresh
+1 free 2 A.f
+2 def A.f 4:1
+1 hold 3 A.f 1:3 3
+1 call 3 A.f 4:1 () enter fresh
+""", 0, """\
+trace
+1 hold 1 A.f two.hb:1:1 1
+1 call 1 A.f two.hb:3:1 () enter fresh
+1 free 1 A.f
+2 def A.f two.hb:3:1
+0 type A.f two.hb:1:2
+2 type A.f two.hb:1:3
+1 hold 2 A.f two.hb:1:3 3
+1 call 2 A.f two.hb:3:1 () enter fresh
+  why: a check was kept and agrees no more: the setup gave A.f a type
+1 free 2 A.f
+2 def A.f two.hb:4:1
+1 hold 3 A.f two.hb:1:3 3
+1 call 3 A.f two.hb:4:1 () enter fresh
+  why: a check was kept and agrees no more: script two gave A.f a body
+""", 0, ""),
+    ("two.hb", "trace\n1 hold 1 A.f 1:1 1\n1 hold 2 A.f 1:1 1\n1 hold 3 A.f 1:1 1\n2 hold 1 A.f 1:1 1\n2 busy A.f 4\n", 0,
+     "trace\n1 hold 1 A.f two.hb:1:1 1\n1 hold 2 A.f two.hb:1:1 1\n1 hold 3 A.f two.hb:1:1 1\n"
+     "2 hold 1 A.f two.hb:1:1 1\n2 busy A.f 4\n  why: the type of A.f is in use by call 1 of script one (A.f) and call 2 "
+     "of script one (A.f) and call 3 of script one (A.f) and 1 more\n", 0, ""),
     # words
     ("a.hb one_line.hb", "words", 0, "==> a.hb <==\nrun (32)\n\n==> one_line.hb <==\nrun (67)\n", 0, ""),
     ("a.hb nosuch.hb a.hb", "", 6, "==> a.hb <==\n\n==> nosuch.hb <==\n\n==> a.hb <==\n", 6, "hb: nosuch.hb: No such"),
@@ -115,8 +186,8 @@ OBJECTS = [
          {"section": "script", "name": "s", "prints": ["a\tb\\n", "1"],
           "end": {"kind": "IllTyped", "line": 3, "column": 7, "reason": {"kind": "Result", "line": 1, "column": 1}},
           "calls": {"all": 2, "own": 1, "shared": 0, "fresh": 0}}]}),
-    ("setup\ndone\ncalls 0 own 0 shared 0 fresh 0\nscript s\n> x\ntrace\n", 0,
-     {"fault": None, "other": ["trace"], "sections": [
+    ("setup\ndone\ncalls 0 own 0 shared 0 fresh 0\nscript s\n> x\ntrace\n1 free 1 A.f\n", 0,
+     {"fault": None, "other": [], "trace": ["1 free 1 A.f"], "sections": [
          {"section": "setup", "name": None, "prints": [], "end": {"kind": "done"},
           "calls": {"all": 0, "own": 0, "shared": 0, "fresh": 0}},
          {"section": "script", "name": "s", "prints": ["x"], "end": None, "calls": None}]}),
@@ -168,7 +239,8 @@ def try_table(room):
 def try_json(room):
     for writes, ends, due in OBJECTS:
         out, _, status = room.run("--json a.hb", writes, ends)
-        room.expect("hb --json on %r" % writes, (json.loads(out), status), (dict(due, file="a.hb", status=ends), ends))
+        room.expect("hb --json on %r" % writes, (json.loads(out), status),
+                    (dict({"trace": None}, **due, file="a.hb", status=ends), ends))
     out, _, status = room.run("a.hb nosuch.hb --json", "text TooLong\n", 1)
     room.expect("hb --json of two files", [json.loads(line)["status"] for line in out.splitlines()], [1, 4])
 

@@ -171,6 +171,18 @@ in_script("Print 1", "written small", "`print`")
 in_script("print x\nx = 1", places=["4:3 has not run yet"])
 in_script("x = 3\ntype A.f : () -> Int\ndef A.f() x end\nprint A.new.f", "does not see the variables of the script",
           places=["3:3 a variable of the script"])
+# Of several scripts each has its own variables, and what another one did is not read off the text.
+wrong("script one\nx = 1\nend\nscript two\nprint x\nend\n", "variables of their own", places=["2:3 a variable of another script"])
+wrong("setup\nx = 1\nend\nscript two\nprint x\nend\n", "variables of their own", places=["2:3 a variable of the setup"])
+wrong("class A\nscript one\nA.new.f\nend\nscript two\ndef A.f() 1 end\nend\n", "line 6 stands in another script",
+      places=["6:1 has not run yet"])
+wrong("class A\nsetup\nA.new.f\nend\nscript two\ndef A.f() 1 end\nend\n", "in a script, and the setup runs before",
+      places=["6:1 has not run yet"])
+TWO_TYPES = "class A\n%s\ntype A.f : (Int) -> Int\ndef A.f(x) x end\nend\nscript two\ntype A.f : (Str) -> Str\nprint A.new.f(1)\nend\n"
+wrong(TWO_TYPES % "script one")
+wrong(TWO_TYPES % "setup", "The first argument is an Int, and a Str is due", places=["7:12 the type of f"])
+wrong("class A\nsetup\ntype A.f : (Int) -> Int\ndef A.f(n) if n == 2 then nil else 1 end + 1 end\nend\nscript one\nA.new.f(1)\n"
+      "A.new.f(2)\nend\nscript two\nA.new.f(1)\nA.new.f(1)\nA.new.f(2)\nend\n", places=["8:7 led there", "13:7 led there"])
 wrong("class A\nscript main\nend\nclass A\n", "Classes stand before")
 wrong("class A\nclass B\nclass A\n", places=["1:7 the first one"])
 in_script("def A.f(a, b, a) 1 end", places=["3:9 the first one"])

@@ -28,14 +28,25 @@ check_needs() {
     done
 }
 
+status_of() {
+    cat "${1%.hb}.status" 2>/dev/null || echo 0
+}
+
 # With this hb, the first example answers with its report in two seconds, and each ends with its status.
 runs_the_examples() {
-    local file due="" hb=$1
+    local file due="" hb=$1 plain=() words
     in_time "$hb" examples/hello.hb && cmp "$room/wrote" examples/hello.out || return 1
     for file in examples/*.hb examples/stops/*.hb; do
-        due+="$file $(cat "${file%.hb}.status" 2>/dev/null || echo 0)"$'\n'
+        if [[ -f ${file%.hb}.words ]]; then
+            read -ra words <"${file%.hb}.words"
+            PATH=$without_kit "$hb" --json "${words[@]}" "$file" >"$room/wrote" || true
+            grep -q "\"status\": $(status_of "$file")," "$room/wrote" || return 1
+        else
+            due+="$file $(status_of "$file")"$'\n'
+            plain+=("$file")
+        fi
     done
-    PATH=$without_kit "$hb" --json examples/*.hb examples/stops/*.hb >"$room/wrote"
+    PATH=$without_kit "$hb" --json "${plain[@]}" >"$room/wrote"
     [[ "$(sed 's/^{"file": "\(.*\)", "status": \([0-9]*\), .*/\1 \2/' "$room/wrote")"$'\n' == "$due" ]]
 }
 
