@@ -72,8 +72,29 @@ fn answers_by_words_bytes_and_faults(rt: HostRuntime) -> Result<(), Fail> {
         },
         on_text("", 0, ""),
         on_text("class A\nclass A", 1, "text TwiceClass 2:7\n"),
-        on_text("setup\nend\n", 1, "text NotYet\n"),
-        on_text("script a\nend\nscript b\nend\n", 1, "text NotYet\n"),
+        on_text(
+            "setup\nend\n",
+            0,
+            "setup\ndone\ncalls 0 own 0 shared 0 fresh 0\n",
+        ),
+        on_text(
+            "script a\nend\nscript b\nend\n",
+            0,
+            "script a\ndone\ncalls 0 own 0 shared 0 fresh 0\nscript b\ndone\ncalls 0 own 0 shared 0 fresh 0\n",
+        ),
+        Row {
+            words: &["run", "--order", "2", "--trace"],
+            ..on_text(
+                "class A\nscript a\ndef A.m() 1 end\nend\nscript b\ndef A.m() 2 end\nend\n",
+                0,
+                "script a\ndone\ncalls 0 own 0 shared 0 fresh 0\nscript b\ndone\ncalls 0 own 0 shared 0 fresh 0\ntrace\n2 def A.m 6:1\n1 def A.m 3:1\n",
+            )
+        },
+        Row {
+            words: &["run", "--order", "h"],
+            read_fails: &[1],
+            ..on_text(GREETING, 2, refused)
+        },
         on_text(
             "class A\nscript main\nprint 1\nA.new.hi(3)\nend\n",
             6,
