@@ -98,12 +98,8 @@ begun_started g door same old mid new adds none learns =
     (begun_first g old mid (subst (λ (d : Fixed). Adds d.caller old mid (Hold g.q g.key g.own.ty g.own.changes)) (sym same) adds) (subst (λ (d : Fixed). stands d.caller g.q.0 old ≡ []) (sym same) none))
 
 same_itself : (t : Ty) → same_ty t t ≡ true
-same_itself ty.Nil = refl
-same_itself ty.Bool = refl
-same_itself ty.Int = refl
-same_itself ty.Str = refl
-same_itself ty.Any = refl
 same_itself (ty.Class c) = eq-eqb c.0 c.0 refl
+same_itself _ = refl
 
 kinds_itself : (ts : List Ty) → same_kinds ts ts ≡ true
 kinds_itself [] = refl

@@ -53,12 +53,6 @@ module _ (g : Given) (names asked : List Name) (log : List Entry) (held : List K
     below = h.holds.below;
   }
 
-  pub call_row : (bytes : List ℕ) → place names (g.class.0, bytes) ≡ Some g.key.0 → site ≡ (spot g.key.0 (log ++ between)).body → IsVerdictBy g.t g.class.0 site g.own.ty (kinds_of g.args) (answers_of answers) v → IsDecided g.t names (log ++ between) (g.door.caller, g.q.0) g.key.0 site (kinds_of g.args) v
-  call_row bytes named defined by =
-      let here = log ++ between in
-      let low = legal_prefix g.door.limit here new (entry g.door.caller (Call g.q g.key site g.args v) ∷ [], sym is) legal in
-      row_here g.t g.door g.q names asked here g.key g.own held answers (learned g.t g.door g.q names asked log g.key g.own held answers h here (between, refl, none) low) g.class.0 bytes site (kinds_of g.args) v named defined by
-
   pub call_whole : IsWhole g.door.caller g.q.0 (log ++ between)
   call_whole =
       let here = log ++ between in

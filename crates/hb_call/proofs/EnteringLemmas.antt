@@ -189,8 +189,5 @@ module _ (a : Asks) (g : Given) (program : g.t ≡ a.t) (door : g.door ≡ a.doo
       })
   enters new (Err fail.NoMemory) h = none_of new h
 
-pub names_on : (a b c : List Name) → IsPrefix a b → IsPrefix b c → IsPrefix a c
-names_on a b c p q = (p.0 ++ q.0, sym (append_assoc a p.0 q.0) ∙ ap (λ w. w ++ q.0) p.1 ∙ q.1)
-
 pub bytes_found : (names : List (List ℕ)) (n : ℕ) (bytes : List ℕ) → slice_get names n ≡ Some bytes → bytes_at names n ≡ bytes
 bytes_found names n bytes is = ap (λ (o : Option (List ℕ)). unwrap_or o []) is

@@ -29,12 +29,7 @@ pub parts_leave : (q : CallNo) (l : List Act) → AreParts q l → LeavesKept l
 parts_leave q [] h = tt
 parts_leave q (Hold p key ty changes ∷ l) h = (refl, parts_leave q l h.1)
 parts_leave q (Free p key ∷ l) h = (refl, parts_leave q l h.1)
-parts_leave q (Retype key site ∷ l) h = absurd h.0
-parts_leave q (Busy key pins ∷ l) h = absurd h.0
-parts_leave q (WornType key ∷ l) h = absurd h.0
-parts_leave q (Define key site ∷ l) h = absurd h.0
-parts_leave q (WornDef key ∷ l) h = absurd h.0
-parts_leave q (Call p key site args v ∷ l) h = absurd h.0
+parts_leave _ _ h = absurd h.0
 
 pub frees_leave : (q : CallNo) (keys : List KeyId) → LeavesKept (frees q keys)
 frees_leave q [] = tt
@@ -51,12 +46,7 @@ part_at q (x ∷ xs) ys a h = part_at q xs ys a h.1
 part_enters : (c : ℕ) (past : List Act) (q : CallNo) (before : List Entry) (a : Act) → IsPart q a → EntersBy c past before a
 part_enters c past q before (Hold p key ty changes) h = tt
 part_enters c past q before (Free p key) h = tt
-part_enters c past q before (Retype key site) h = absurd h
-part_enters c past q before (Busy key pins) h = absurd h
-part_enters c past q before (WornType key) h = absurd h
-part_enters c past q before (Define key site) h = absurd h
-part_enters c past q before (WornDef key) h = absurd h
-part_enters c past q before (Call p key site args v) h = absurd h
+part_enters _ _ _ _ _ h = absurd h
 
 -- and enters no body
 pub goes_ways : (g : Given) (past : List Act) (was is : Moment) → Goes g was is → EachNew (EntersBy g.door.caller past) g.door.caller was.log is.log
@@ -86,12 +76,7 @@ stands_on q k hs (Hold p key ty changes) live some = by (eqb q p.0)
     by true = let n = count_last k hs (record { key = key.0; ty = ty; changes = changes }) in omega (arith, n, some)
     by false = some
 stands_on q k hs (Free p key) live some = rw live some
-stands_on q k hs (Retype key site) live some = some
-stands_on q k hs (Busy key pins) live some = some
-stands_on q k hs (WornType key) live some = some
-stands_on q k hs (Define key site) live some = some
-stands_on q k hs (WornDef key) live some = some
-stands_on q k hs (Call p key site args v) live some = some
+stands_on _ _ _ _ _ some = some
 
 -- what stands does so while the call frees nothing
 stands_live : (q k : ℕ) (hs : List Stand) (l : List Act) → StaysLive q l → 1 ≤ count_of k hs → 1 ≤ count_of k (standing_from q hs l)
@@ -114,9 +99,4 @@ asked_live q names asked hs (Hold p key ty changes ∷ l) parts live held =
     ap (λ w. asked_after names w l) (asked_already names asked key.0 (held key.0 (stands_live q.0 key.0 hs2 l live.1 (stands_held q p key ty changes hs parts.0))))
     ∙ asked_live q names asked hs2 l parts.1 live.1 held
 asked_live q names asked hs (Free p key ∷ l) parts live held = asked_live q names asked (stand_done q.0 hs (Free p key)) l parts.1 live.1 held
-asked_live q names asked hs (Retype key site ∷ l) parts live held = absurd parts.0
-asked_live q names asked hs (Busy key pins ∷ l) parts live held = absurd parts.0
-asked_live q names asked hs (WornType key ∷ l) parts live held = absurd parts.0
-asked_live q names asked hs (Define key site ∷ l) parts live held = absurd parts.0
-asked_live q names asked hs (WornDef key ∷ l) parts live held = absurd parts.0
-asked_live q names asked hs (Call p key site args v ∷ l) parts live held = absurd parts.0
+asked_live _ _ _ _ _ parts _ _ = absurd parts.0

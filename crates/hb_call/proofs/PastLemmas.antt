@@ -31,12 +31,7 @@ use Rattle.hb_call.proofs.StayLemmas.{hold_finds, type_stays}
 nothing_past : (q k : ℕ) (kinds : List Ty) (held : List Stand) (p : CallNo) (a : Act) (l : List Act) → IsPart p a → decision false q k kinds held (a ∷ l) ≡ Lost
 nothing_past q k kinds held p (Hold r key ty n) l h = refl
 nothing_past q k kinds held p (Free r key) l h = refl
-nothing_past q k kinds held p (Retype key site) l h = absurd h
-nothing_past q k kinds held p (Busy key pins) l h = absurd h
-nothing_past q k kinds held p (WornType key) l h = absurd h
-nothing_past q k kinds held p (Define key site) l h = absurd h
-nothing_past q k kinds held p (WornDef key) l h = absurd h
-nothing_past q k kinds held p (Call r key site args v) l h = absurd h
+nothing_past _ _ _ _ _ _ _ h = absurd h
 
 read_past : (t : Table) (q : CallNo) (key : KeyId) (ty : Option TypeSite) (n : ℕ) (kinds : List Ty) (a : Act) (l : List Act) → IsPart q a → (call_of t q.0 key.0 kinds (Hold q key ty n ∷ a ∷ l) ≡ Lost → ⊥) → takes_at t ty kinds ≡ true
 read_past t q key ty n kinds a l part some = by (takes_at t ty kinds) refl

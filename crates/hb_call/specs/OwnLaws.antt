@@ -110,12 +110,6 @@ since_alone past mine none = ap (cache_from past nothing) (drop_all past mine) �
 pub since_itself : (past : List Act) → cache_since past past ≡ nothing
 since_itself past = ap (cache_from past nothing) (ap (drop (length past)) (sym (append-nil past)) ∙ drop_all past [])
 
-pub leaves_join : (l m : List Act) → LeavesKept l → LeavesKept m → LeavesKept (l ++ m)
-leaves_join [] m h i = i
-leaves_join (a ∷ l) m h i = (h.0, leaves_join l m h.1 i)
-
--- ── names that were asked for ──
-
 get_more : {X : Type 0} (a b : List X) (k : ℕ) (x : X) → slice_get a k ≡ Some x → slice_get (a ++ b) k ≡ Some x
 get_more [] b k x e = absurd (none-some x e)
 get_more (y ∷ a) b zero x e = e
@@ -283,15 +277,6 @@ module _ (t : Table) (names known was asked : List Name) (c : ℕ) (past : Optio
     each = λ k kept e. check_on t names known was asked old new longer more goes kept (own.each k kept e);
   }
 
-  -- so it does over what others do
-  pub own_learns : Learns c old new → IsOwnCache t known asked c past new cache
-  own_learns learns = own_stays [] (learns_prefix c old new learns) (learns_acts c old new learns ∙ sym (append-nil (acts c old))) tt
-
-  -- and over one act that leaves it
-  pub own_adds : (a : Act) → Adds c old new a → changes_kept a ≡ false → IsOwnCache t known asked c past new cache
-  own_adds a adds leaves = own_stays (a ∷ []) (adds_prefix c old new a adds) (adds_act c old new a adds) (leaves, tt)
-
-  -- its caller gave the key a type, and what used the key was dropped
   pub own_retype : (key : KeyId) (site : TypeSite) (left : List (Option Kept)) → Adds c old new (Retype key site) → ((k : ℕ) → kept_at left k ≡ not_using key.0 (kept_at cache k)) → IsOwnCache t known asked c past new left
   own_retype key site left adds drops = step_of t known asked c past old new (Retype key site) cache left (adds_act c old new (Retype key site) adds) own.same
       (λ items same k. subst (λ (o : Option Kept). SameItem (option_map item_of o) (unless_used key.0 (items k))) (sym (drops k)) (dropped_same key.0 (kept_at cache k) (items k) (same k)))
@@ -346,23 +331,6 @@ keeps_named t c names known was asked log cache longer more = record {
 pub keeps_itself : (t : Table) (c : ℕ) (names asked : List Name) (log : List Entry) (cache : List (Option Kept)) → KeepsChecks t c names names asked asked log log cache cache
 keeps_itself t c names asked log cache = keeps_named t c names names asked asked log cache (prefix_itself names) (prefix_itself asked)
 
--- ── the types of a kept check that agrees ──
-
-module _ (t : Table) (names asked : List Name) (limit : ℕ) (log : List Entry) (legal : IsLegal limit log) where
-  use_type : (u : Used) (s : Seen) → IsUse t names asked log u s → (spot s.key.0 log).changes ≡ s.changes → types_in t names log (key_of u) ≡ type_of (sites_of t) u
-  use_type u s h now = ap (λ o. type_at (sites_of t) (site_in log o)) h.named ∙ ap (λ (o : Option TypeSite). type_at (sites_of t) (option_map (λ (x : TypeSite). x.0) o)) (seen_now limit s.key s.changes s.site log legal h.was now) ∙ h.typed
-
-  -- where the counts of uses are as they were, their methods have the types for which the uses stand
-  pub uses_agree : (us : List Used) (seen : List Seen) → AreUses t names asked log us seen → AllByRecursion (λ s. (spot s.key.0 log).changes ≡ s.changes) seen → AgreesWith (sites_of t) us (types_in t names log)
-  uses_agree [] [] h now = tt
-  uses_agree [] (s ∷ seen) h now = absurd h
-  uses_agree (u ∷ us) [] h now = absurd h
-  uses_agree (u ∷ us) (s ∷ seen) h now = (use_type u s h.0 now.0, uses_agree us seen h.1 now.1)
-
-  -- where the count of its key is as it was, the key has the derivation's declared type
-  pub check_type : (kept : Kept) → IsTrueCheck t names asked log kept → (spot kept.key.0 log).changes ≡ kept.changes → type_of_key t log kept.key.0 ≡ sites_of t kept.derivation.declared.0
-  check_type kept h now = ap (λ (o : Option TypeSite). type_at (sites_of t) (option_map (λ (x : TypeSite). x.0) o)) (seen_now limit kept.key kept.changes (Some h.site) log legal h.was now) ∙ h.typed
-
 -- ── when a call finds its own check ──
 
 same_some : (i : Item) (o : Option Item) → SameItem (Some i) o → (j : Item) × (o ≡ Some j) × SaysSame i j
@@ -415,24 +383,5 @@ module _ (t : Table) (names asked : List Name) (c : ℕ) (past : List Act) (k : 
         counts = each_tells log s.0 s.0.counts.items tells (own.each k s.0 s.1).once;
       }
 
-  -- nothing is kept for the key
-  pub unkept_differs : kept_at cache k ≡ None → OwnAgrees c past k log → ⊥
-  unkept_differs none a = let h = agrees_hits a in none-some h.kept (sym none ∙ h.there)
-
-  -- what is kept is of another body
-  pub body_differs : (kept : Kept) → kept_at cache k ≡ Some kept → ((spot k log).body ≡ Some kept.derivation.body → ⊥) → OwnAgrees c past k log → ⊥
-  body_differs kept there other a = let h = agrees_hits a in other (subst (λ (x : Kept). (spot k log).body ≡ Some x.derivation.body) (same_Some h.kept kept (sym h.there ∙ there)) h.body)
-
-  -- the key's type was changed since
   pub own_differs : (kept : Kept) → kept_at cache k ≡ Some kept → ((spot kept.key.0 log).changes ≡ kept.changes → ⊥) → OwnAgrees c past k log → ⊥
   own_differs kept there other a = let h = agrees_hits a in other (subst (λ (x : Kept). (spot x.key.0 log).changes ≡ x.changes) (same_Some h.kept kept (sym h.there ∙ there)) h.own)
-
-  -- the type of a use was changed since
-  pub count_differs : (kept : Kept) (s : Seen) (first rest : List Seen) → kept_at cache k ≡ Some kept → kept.counts.items ≡ first ++ s ∷ rest → ((spot s.key.0 log).changes ≡ s.changes → ⊥) → OwnAgrees c past k log → ⊥
-  count_differs kept s first rest there among other a =
-      let h = agrees_hits a in
-      other (middle first (subst (λ (l : List Seen). AllByRecursion (λ s. (spot s.key.0 log).changes ≡ s.changes) l) among (subst (λ (x : Kept). AllByRecursion (λ s. (spot s.key.0 log).changes ≡ s.changes) x.counts.items) (same_Some h.kept kept (sym h.there ∙ there)) h.counts)))
-    where
-      middle : (first : List Seen) → AllByRecursion (λ s. (spot s.key.0 log).changes ≡ s.changes) (first ++ s ∷ rest) → (spot s.key.0 log).changes ≡ s.changes
-      middle [] h = h.0
-      middle (x ∷ first) h = middle first h.1

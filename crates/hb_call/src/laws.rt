@@ -1,6 +1,6 @@
 //! What is true of the acts of a call.
 
-ghost use Rattle.std.specs.Prelude.{◌≡◌, ◌∷◌, ℕ, List, Option, Some, true};
+ghost use Rattle.std.specs.Prelude.{◌≡◌, [], ◌∷◌, ◌++◌, ℕ, List, Option, Some, true};
 ghost use Rattle.hb_types.specs.declared.ids.BodySite.{BodySite};
 ghost use Rattle.hb_types.specs.declared.ids.CallNo.{CallNo};
 ghost use Rattle.hb_types.specs.declared.ids.KeyId.{KeyId};
@@ -14,9 +14,11 @@ ghost use Rattle.hb_tables.specs.declared.entry.ArgKinds.{ArgKinds};
 ghost use Rattle.hb_tables.specs.declared.entry.Entry.{Entry};
 ghost use Rattle.hb_tables.specs.declared.entry.Verdict.{Verdict};
 ghost use Rattle.hb_tables.specs.History.{IsLegal};
+ghost use Rattle.hb_tables.specs.Standing.{standing};
 ghost use Rattle.hb_tables.specs.Rows.{fill, kinds_of, type_of_key};
 ghost use Rattle.hb_tables.specs.Verdicts.{takes};
 ghost use Rattle.hb_call.specs.Calling.{IsPart};
+ghost use Rattle.hb_call.specs.Own.{cache_of, cache_since};
 ghost use Rattle.hb_call.specs.Reading.{Lost, call_of};
 ghost use Rattle.hb_call.specs.Rules.{Began, FitsRules};
 
@@ -27,4 +29,9 @@ pub fn calls_go_on_where_their_arguments_fit()
         → (m : MethodTy) × (type_of_key t log key.0 ≡ Some m) × (takes m kinds ≡ true) }
     ensures filled { (t : Table) (names : List Name) (c : ℕ) (log : List Entry) (q : CallNo) (key : KeyId) (site : Option BodySite) (args : ArgKinds) (v : Verdict)
         → FitsRules t names c log (Call q key site args v) → args ≡ fill (kinds_of args) }
+{}
+
+/// A machine that begins where its caller holds nothing keeps what its own acts alone keep.
+pub fn machines_keep_what_their_acts_keep()
+    ensures { (past mine : List Act) → ((q : ℕ) → standing q past ≡ []) → cache_since past (past ++ mine) ≡ cache_of mine }
 {}

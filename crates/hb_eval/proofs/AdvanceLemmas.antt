@@ -101,8 +101,6 @@ rest_calls t m k ks top f = subst (λ l. m.state.made + sum_over calls_in l ≤ 
 
 some_weight : (k : Cont) → 1 ≤ weigh_one k
 some_weight (cont.Test c b) = omega arith
-some_weight (cont.Receiver id) = omega arith
-some_weight (cont.Arguments id n) = omega arith
 some_weight _ = omega arith
 
 -- a stop passed what was to be done, and the machine is fine
@@ -153,13 +151,6 @@ none_begun hands.Begins now n ks going stays no_more = absurd (no_more (stays re
 none_begun hands.Gives now n ks going stays no_more = refl
 none_begun hands.Stops now n ks going stays no_more = absurd going
 
--- a stop with nothing left to do is at rest
-pub stopped_rest : (hand : Hand) (ks : List Cont) → hand ≡ hands.Stops → ks ≡ [] → IsRest hand ks
-stopped_rest hands.Stops ks stopped none = none
-stopped_rest hands.Gives ks stopped none = none
-stopped_rest hands.Begins ks stopped none = tt
-
--- nothing was done
 pub carries_held : (t : Table) (c : ℕ) (known asked : List Name) (log : List Entry) (old : Machine) (v : Vec Cont Global) → v.items ≡ old.conts.items → IsFineMachine t old → Carries t c known known asked asked log log old (record old { conts = v })
 carries_held t c known asked log old v e f = record {
   reads = reads_none known c log log old.state old.state (of_machine t old) (of_machine t (record old { conts = v })) refl (record { made = refl; decided = refl; own = refl; fresh = refl })

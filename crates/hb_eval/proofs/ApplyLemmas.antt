@@ -57,13 +57,7 @@ begins_reads known t c log frames old new move h same =
 
 no_call : (way : By) (a : Act) → is_call a ≡ false → is_entered way a ≡ false
 no_call way (Call q key site args v) h = absurd (cc)
-no_call way (Hold q key ty changes) h = refl
-no_call way (Free q key) h = refl
-no_call way (Retype key site) h = refl
-no_call way (Busy key pins) h = refl
-no_call way (WornType key) h = refl
-no_call way (Define key site) h = refl
-no_call way (WornDef key) h = refl
+no_call _ _ _ = refl
 
 counts_none : (p : Act → Bool) (l : List Act) → AllByRecursion (λ a. p a ≡ false) l → count_by p l ≡ 0
 counts_none p [] h = refl

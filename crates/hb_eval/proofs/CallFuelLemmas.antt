@@ -42,10 +42,7 @@ leaves_body n run k q c args held (Some b) s h = leaves_leave n q held s.vars s.
 
 leaves_decided : (n id : ℕ) (body : St → Answer) (v : Verdict) (s : St) → LeavesBelow n (body s) → LeavesBelow n (decided id body v s)
 leaves_decided n id body (verdict.Enter way) s h = h
-leaves_decided n id body verdict.NoBody s h = tt
-leaves_decided n id body verdict.NoType s h = tt
-leaves_decided n id body verdict.BadArgs s h = tt
-leaves_decided n id body (verdict.IllTyped ill) s h = tt
+leaves_decided _ _ _ _ _ _ = tt
 
 leaves_called : (n : ℕ) (t : Table) (run : ℕ → St → Answer) → ((block : ℕ) (s : St) → s.fuel < n → LeavesBelow n (run block s)) → (id : ℕ) (c : ClassId) (args : List Value) (r : Read) (s : St) → s.fuel < n → LeavesBelow n (called t run id c args r s)
 leaves_called n t run k id c args NoCall s h = tt

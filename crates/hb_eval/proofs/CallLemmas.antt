@@ -73,22 +73,14 @@ call_reads t names (suc room) id m v c key vs s some h found =
 
 -- the reading of Frees looks at keys alone
 freed_keys : (q : ℕ) (hs : List Stand) (keys : List KeyId) (l : List Act) → map (λ (h : Stand). h.key) hs ≡ map (λ (k : KeyId). k.0) keys → freed q hs l ≡ freed q (holds_of keys) l
-freed_keys q [] [] l e = refl
 freed_keys q [] (k ∷ keys) l e = absurd (cc)
 freed_keys q (h ∷ hs) [] l e = absurd (cc)
-freed_keys q (h ∷ hs) (k ∷ keys) [] e = refl
 freed_keys q (h ∷ hs) (k ∷ keys) (Free r key ∷ l) e =
     let same : h.key ≡ k.0 = cc in
     let rest : map (λ (h : Stand). h.key) hs ≡ map (λ (k : KeyId). k.0) keys = cc in
     ap (λ n. if nat_eq r.0 q && nat_eq key.0 n then freed q hs l else None) same
     ∙ ap (λ o. if nat_eq r.0 q && nat_eq key.0 k.0 then o else None) (freed_keys q hs keys l rest)
-freed_keys q (h ∷ hs) (k ∷ keys) (Hold r key ty changes ∷ l) e = refl
-freed_keys q (h ∷ hs) (k ∷ keys) (Retype key site ∷ l) e = refl
-freed_keys q (h ∷ hs) (k ∷ keys) (Busy key pins ∷ l) e = refl
-freed_keys q (h ∷ hs) (k ∷ keys) (WornType key ∷ l) e = refl
-freed_keys q (h ∷ hs) (k ∷ keys) (Define key site ∷ l) e = refl
-freed_keys q (h ∷ hs) (k ∷ keys) (WornDef key ∷ l) e = refl
-freed_keys q (h ∷ hs) (k ∷ keys) (Call r key site args v ∷ l) e = refl
+freed_keys _ _ _ _ _ = refl
 
 freed_first : (q : CallNo) (keys : List KeyId) (rest : List Act) → freed q.0 (holds_of keys) (frees q keys ++ rest) ≡ Some rest
 freed_first q [] rest = refl
@@ -117,10 +109,7 @@ decided_stops id body (verdict.IllTyped ill) e s h = ap (λ x. Halt x id s) (let
 
 refused_called : (q : ℕ) (site : Option BodySite) (v : Verdict) (e : Stop) (hs : List Stand) (l : List Act) → refusal v ≡ Some e → reading.called q site v hs l ≡ refused_at site v (freed q hs l)
 refused_called q site (verdict.Enter way) e hs l h = absurd (cc)
-refused_called q site verdict.NoBody e hs l h = refl
-refused_called q site verdict.NoType e hs l h = refl
-refused_called q site verdict.BadArgs e hs l h = refl
-refused_called q site (verdict.IllTyped ill) e hs l h = refl
+refused_called _ _ _ _ _ _ _ = refl
 
 -- a call that was refused gives back what it held
 pub gives_back : (q : CallNo) (site : Option BodySite) (v : Verdict) (e : Stop) (hs : List Stand) (keys : List KeyId) (rest : List Act) → refusal v ≡ Some e → map (λ (h : Stand). h.key) hs ≡ map (λ (k : KeyId). k.0) keys

@@ -26,19 +26,12 @@ count_is p a l b h none = sum_by-cons (λ x. cond (p x) 1 0) a l ∙ ap (λ b. c
 module _ (p : Act → Bool) (no_hold : (q : CallNo) (key : KeyId) (ty : Option TypeSite) (changes : ℕ) → p (Hold q key ty changes) ≡ false) (no_free : (q : CallNo) (key : KeyId) → p (Free q key) ≡ false) where
   freed_counts : (q : ℕ) (hs : List Stand) (l : List Act) → freed q hs l ≡ Some [] → count_by p l ≡ 0
   freed_counts q [] l e = ap (count_by p) (let f : l ≡ [] = cc in f)
-  freed_counts q (h ∷ hs) [] e = absurd (cc)
   freed_counts q (h ∷ hs) (Free r key ∷ l) e = go (nat_eq r.0 q && nat_eq key.0 h.key) e (freed_counts q hs l)
     where
       go : (b : Bool) → (if b then freed q hs l else None) ≡ Some [] → (freed q hs l ≡ Some [] → count_by p l ≡ 0) → count_by p (Free r key ∷ l) ≡ 0
       go true e rest = count_no p (Free r key) l (no_free r key) ∙ rest e
       go false e rest = absurd (cc)
-  freed_counts q (h ∷ hs) (Hold r key ty changes ∷ l) e = absurd (cc)
-  freed_counts q (h ∷ hs) (Retype key site ∷ l) e = absurd (cc)
-  freed_counts q (h ∷ hs) (Busy key pins ∷ l) e = absurd (cc)
-  freed_counts q (h ∷ hs) (WornType key ∷ l) e = absurd (cc)
-  freed_counts q (h ∷ hs) (Define key site ∷ l) e = absurd (cc)
-  freed_counts q (h ∷ hs) (WornDef key ∷ l) e = absurd (cc)
-  freed_counts q (h ∷ hs) (Call r key site args v ∷ l) e = absurd (cc)
+  freed_counts q _ _ e = absurd (cc)
 
   module _ (t : Table) (q k : ℕ) (kinds : List Ty) (site : Option BodySite) (v : Verdict) (held : List Stand) (b : Bool) (is : (r : CallNo) (key : KeyId) (args : ArgKinds) → p (Call r key site args v) ≡ b) where
     refused : (r : CallNo) (key : KeyId) (s : Option BodySite) (args : ArgKinds) (w : Verdict) (hs : List Stand) (l : List Act) (o : Option (List Act)) → freed q hs l ≡ o → refused_at s w o ≡ Called site v held [] → count_by p (Call r key s args w ∷ l) ≡ cond b 1 0
@@ -58,7 +51,6 @@ module _ (p : Act → Bool) (no_hold : (q : CallNo) (key : KeyId) (ty : Option T
 
     -- Holds and Frees, one Call, and what was given back
     decision_counts : (fits : Bool) (hs : List Stand) (made : List Act) → decision fits q k kinds hs made ≡ Called site v held [] → count_by p made ≡ cond b 1 0
-    decision_counts fits hs [] e = absurd (cc)
     decision_counts fits hs (Hold r key ty changes ∷ l) e = go (fits && nat_eq r.0 q) e (decision_counts fits (hs ++ record { key = key.0; ty = ty; changes = changes } ∷ []) l)
       where
         go : (t : Bool) → (if t then decision fits q k kinds (hs ++ record { key = key.0; ty = ty; changes = changes } ∷ []) l else Lost) ≡ Called site v held []
@@ -78,27 +70,16 @@ module _ (p : Act → Bool) (no_hold : (q : CallNo) (key : KeyId) (ty : Option T
         go : (t : Bool) → (if t then called q s w hs l else Lost) ≡ Called site v held [] → count_by p (Call r key s args w ∷ l) ≡ cond b 1 0
         go true e = at_call r key s args w hs l e
         go false e = absurd (cc)
-    decision_counts fits hs (Retype key site ∷ l) e = absurd (cc)
-    decision_counts fits hs (Busy key pins ∷ l) e = absurd (cc)
-    decision_counts fits hs (WornType key ∷ l) e = absurd (cc)
-    decision_counts fits hs (Define key site ∷ l) e = absurd (cc)
-    decision_counts fits hs (WornDef key ∷ l) e = absurd (cc)
+    decision_counts fits hs _ e = absurd (cc)
 
     -- the acts of a call that was decided
     pub call_counts : (made : List Act) → call_of t q k kinds made ≡ Called site v held [] → count_by p made ≡ cond b 1 0
-    call_counts [] e = absurd (cc)
     call_counts (Hold r key ty changes ∷ l) e = go (nat_eq r.0 q && nat_eq key.0 k) e
       where
         go : (own : Bool) → (if own then decision (takes_at t ty kinds) q k kinds (record { key = key.0; ty = ty; changes = changes } ∷ []) l else Lost) ≡ Called site v held [] → count_by p (Hold r key ty changes ∷ l) ≡ cond b 1 0
         go true e = count_no p (Hold r key ty changes) l (no_hold r key ty changes) ∙ decision_counts (takes_at t ty kinds) (record { key = key.0; ty = ty; changes = changes } ∷ []) l e
         go false e = absurd (cc)
-    call_counts (Free r key ∷ l) e = absurd (cc)
-    call_counts (Call r key s args w ∷ l) e = absurd (cc)
-    call_counts (Retype key site ∷ l) e = absurd (cc)
-    call_counts (Busy key pins ∷ l) e = absurd (cc)
-    call_counts (WornType key ∷ l) e = absurd (cc)
-    call_counts (Define key site ∷ l) e = absurd (cc)
-    call_counts (WornDef key ∷ l) e = absurd (cc)
+    call_counts _ e = absurd (cc)
 
   module _ (t : Table) (q k : ℕ) (kinds : List Ty) where
     no_refusal : (s : Option BodySite) (w : Verdict) (o : Option (List Act)) → refused_at s w o ≡ FullAt [] → ⊥
@@ -113,7 +94,6 @@ module _ (p : Act → Bool) (no_hold : (q : CallNo) (key : KeyId) (ty : Option T
     not_full s (verdict.IllTyped ill) hs l e = no_refusal s (verdict.IllTyped ill) (freed q hs l) e
 
     full_decision : (fits : Bool) (hs : List Stand) (made : List Act) → decision fits q k kinds hs made ≡ FullAt [] → count_by p made ≡ 0
-    full_decision fits hs [] e = absurd (cc)
     full_decision fits hs (Hold r key ty changes ∷ l) e = go (fits && nat_eq r.0 q) e (full_decision fits (hs ++ record { key = key.0; ty = ty; changes = changes } ∷ []) l)
       where
         go : (t : Bool) → (if t then decision fits q k kinds (hs ++ record { key = key.0; ty = ty; changes = changes } ∷ []) l else Lost) ≡ FullAt []
@@ -133,24 +113,13 @@ module _ (p : Act → Bool) (no_hold : (q : CallNo) (key : KeyId) (ty : Option T
         go : (t : Bool) → (if t then called q s w hs l else Lost) ≡ FullAt [] → count_by p (Call r key s args w ∷ l) ≡ 0
         go true e = absurd (not_full s w hs l e)
         go false e = absurd (cc)
-    full_decision fits hs (Retype key site ∷ l) e = absurd (cc)
-    full_decision fits hs (Busy key pins ∷ l) e = absurd (cc)
-    full_decision fits hs (WornType key ∷ l) e = absurd (cc)
-    full_decision fits hs (Define key site ∷ l) e = absurd (cc)
-    full_decision fits hs (WornDef key ∷ l) e = absurd (cc)
+    full_decision fits hs _ e = absurd (cc)
 
     -- the acts of a call that found the list of names full
     pub full_counts : (made : List Act) → call_of t q k kinds made ≡ FullAt [] → count_by p made ≡ 0
-    full_counts [] e = absurd (cc)
     full_counts (Hold r key ty changes ∷ l) e = go (nat_eq r.0 q && nat_eq key.0 k) e
       where
         go : (own : Bool) → (if own then decision (takes_at t ty kinds) q k kinds (record { key = key.0; ty = ty; changes = changes } ∷ []) l else Lost) ≡ FullAt [] → count_by p (Hold r key ty changes ∷ l) ≡ 0
         go true e = count_no p (Hold r key ty changes) l (no_hold r key ty changes) ∙ full_decision (takes_at t ty kinds) (record { key = key.0; ty = ty; changes = changes } ∷ []) l e
         go false e = absurd (cc)
-    full_counts (Free r key ∷ l) e = absurd (cc)
-    full_counts (Call r key s args w ∷ l) e = absurd (cc)
-    full_counts (Retype key site ∷ l) e = absurd (cc)
-    full_counts (Busy key pins ∷ l) e = absurd (cc)
-    full_counts (WornType key ∷ l) e = absurd (cc)
-    full_counts (Define key site ∷ l) e = absurd (cc)
-    full_counts (WornDef key ∷ l) e = absurd (cc)
+    full_counts _ e = absurd (cc)

@@ -50,10 +50,7 @@ use Rattle.hb_eval.proofs.EntryLemmas.{call_enters}
 -- the class of a receiver is known
 pub class_known : (t : Table) (v : Value) (c : ClassId) → receiver v ≡ Ok c → IsKnown t v → c.0 < length t.classes
 class_known t (value.Object o) c e known = subst (λ (x : ClassId). x.0 < length t.classes) (let f : o ≡ c = cc in f) known
-class_known t value.Nil c e known = absurd (cc)
-class_known t (value.Bool b) c e known = absurd (cc)
-class_known t (value.Int n) c e known = absurd (cc)
-class_known t (value.Str x) c e known = absurd (cc)
+class_known t _ c e known = absurd (cc)
 
 pub reads_longer : (known longer : List Name) (c : ℕ) (was now : List Entry) (old new : State) (first second : Telling) → IsPrefix known longer → Reads known c was now old new first second → Reads longer c was now old new first second
 reads_longer known longer c was now old new first second named a = record {
@@ -164,7 +161,6 @@ asked_stays names was (Call q key site args v ∷ l) name k e = asked_stays name
 
 -- the acts of a call ask for its own name first
 asked_first : (t : Table) (names was : List Name) (q k : ℕ) (kinds : List Ty) (made : List Act) (name : Name) → place names name ≡ Some k → call_of t q k kinds made ≡ FullAt [] → (j : ℕ) × (place (asked_after names was made) name ≡ Some j)
-asked_first t names was q k kinds [] name found e = absurd (cc)
 asked_first t names was q k kinds (Hold r key ty changes ∷ l) name found e = go (nat_eq r.0 q && nat_eq key.0 k) refl e
   where
     go : (b : Bool) → (nat_eq r.0 q && nat_eq key.0 k) ≡ b → (if b then decision (takes_at t ty kinds) q k kinds (record { key = key.0; ty = ty; changes = changes } ∷ []) l else Lost) ≡ FullAt [] → (j : ℕ) × (place (asked_after names (with_key names was key.0) l) name ≡ Some j)
@@ -174,13 +170,7 @@ asked_first t names was q k kinds (Hold r key ty changes ∷ l) name found e = g
         let there = name_there was name in
         (there.0, asked_stays names (with_key names was key.0) l name there.0 (ap (λ o. place (with_found was o) name) at ∙ there.1))
     go false is e = absurd (cc)
-asked_first t names was q k kinds (Free r key ∷ l) name found e = absurd (cc)
-asked_first t names was q k kinds (Retype key site ∷ l) name found e = absurd (cc)
-asked_first t names was q k kinds (Busy key pins ∷ l) name found e = absurd (cc)
-asked_first t names was q k kinds (WornType key ∷ l) name found e = absurd (cc)
-asked_first t names was q k kinds (Define key site ∷ l) name found e = absurd (cc)
-asked_first t names was q k kinds (WornDef key ∷ l) name found e = absurd (cc)
-asked_first t names was q k kinds (Call r key site args v ∷ l) name found e = absurd (cc)
+asked_first t names was q k kinds _ name found e = absurd (cc)
 
 same_end : {A : Type 0} (a b c : List A) → a ++ b ≡ a ++ c → b ≡ c
 same_end [] b c e = e

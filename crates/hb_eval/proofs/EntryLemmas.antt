@@ -111,10 +111,7 @@ enter_tallies t old q k kinds site by.Fresh held made e apart =
 
 no_way : (way : By) (v : Verdict) (e : Stop) → refusal v ≡ Some e → (q : CallNo) (key : _) (site : _) (args : ArgKinds) → is_entered way (Call q key site args v) ≡ false
 no_way way (verdict.Enter w) e h q key site args = absurd (cc)
-no_way way verdict.NoBody e h q key site args = refl
-no_way way verdict.NoType e h q key site args = refl
-no_way way verdict.BadArgs e h q key site args = refl
-no_way way (verdict.IllTyped ill) e h q key site args = refl
+no_way _ _ _ _ _ _ _ _ = refl
 
 refuse_tallies : (t : Table) (old new : State) (q k : ℕ) (kinds : _) (site : _) (v : Verdict) (e : Stop) (made : List Act) → refusal v ≡ Some e → call_of t q k kinds made ≡ Called site v [] [] → new.decided ≡ old.decided + 1 → new.own ≡ old.own → new.fresh ≡ old.fresh → Tallies old new made
 refuse_tallies t old new q k kinds site v e made why f decided own fresh =

@@ -89,23 +89,11 @@ module _ (t : Table) (names known : List Name) (longer : IsPrefix names known) w
 
   call_longer : (hs : List Stand) (k : ℕ) (v : Verdict) (site : Option BodySite) (old new : Option (List Derivation)) → GathersCall t names hs k v site old new → GathersCall t known hs k v site old new
   call_longer hs k (verdict.Enter by.Fresh) (Some site) old new h = takes_longer hs k site old new h
-  call_longer hs k (verdict.Enter by.Fresh) None old new h = h
-  call_longer hs k (verdict.Enter by.Own) site old new h = h
-  call_longer hs k (verdict.Enter by.Shared) site old new h = h
-  call_longer hs k verdict.NoBody site old new h = h
-  call_longer hs k verdict.NoType site old new h = h
-  call_longer hs k verdict.BadArgs site old new h = h
-  call_longer hs k (verdict.IllTyped ill) site old new h = h
+  call_longer _ _ _ _ _ _ h = h
 
   one_longer : (before : List Act) (a : Act) (old new : Option (List Derivation)) → GathersOne t names before a old new → GathersOne t known before a old new
   one_longer before (Call q key site args v) old new h = call_longer (standing q.0 before) key.0 v site old new h
-  one_longer before (Hold q key ty changes) old new h = h
-  one_longer before (Free q key) old new h = h
-  one_longer before (Retype key site) old new h = h
-  one_longer before (Busy key pins) old new h = h
-  one_longer before (WornType key) old new h = h
-  one_longer before (Define key site) old new h = h
-  one_longer before (WornDef key) old new h = h
+  one_longer _ _ _ _ h = h
 
   gathers_longer : (before l : List Act) (old new : Option (List Derivation)) → Gathers t names before l old new → Gathers t known before l old new
   gathers_longer before [] old new h = h
@@ -137,19 +125,7 @@ none_here false n e = (refl, omega (arith, e))
 
 adds_none : (t : Table) (names : List Name) (before : List Act) (a : Act) (o : Option (List Derivation)) → is_entered by.Fresh a ≡ false → GathersOne t names before a o o
 adds_none t names before (Call q key site args (verdict.Enter by.Fresh)) o h = absurd (cc h)
-adds_none t names before (Call q key site args (verdict.Enter by.Own)) o h = refl
-adds_none t names before (Call q key site args (verdict.Enter by.Shared)) o h = refl
-adds_none t names before (Call q key site args verdict.NoBody) o h = refl
-adds_none t names before (Call q key site args verdict.NoType) o h = refl
-adds_none t names before (Call q key site args verdict.BadArgs) o h = refl
-adds_none t names before (Call q key site args (verdict.IllTyped ill)) o h = refl
-adds_none t names before (Hold q key ty changes) o h = refl
-adds_none t names before (Free q key) o h = refl
-adds_none t names before (Retype key site) o h = refl
-adds_none t names before (Busy key pins) o h = refl
-adds_none t names before (WornType key) o h = refl
-adds_none t names before (Define key site) o h = refl
-adds_none t names before (WornDef key) o h = refl
+adds_none _ _ _ _ _ _ = refl
 
 gathers_none : (t : Table) (names : List Name) (before l : List Act) (o : Option (List Derivation)) → count_by (is_entered by.Fresh) l ≡ 0 → Gathers t names before l o o
 gathers_none t names before [] o h = refl

@@ -50,33 +50,21 @@ has_no_part : (q : ℕ) (a : Act) → IsChange a → has_part q a ≡ false
 has_no_part q (Hold p key ty changes) h = absurd h
 has_no_part q (Free p key) h = absurd h
 has_no_part q (Call p key site args verdict) h = absurd h
-has_no_part q (Retype key site) h = refl
-has_no_part q (Busy key pins) h = refl
-has_no_part q (WornType key) h = refl
-has_no_part q (Define key site) h = refl
-has_no_part q (WornDef key) h = refl
+has_no_part _ _ _ = refl
 
 -- where its key is that of a name, it fits the rules
 fits_any : (t : Table) (names : List Name) (c : ℕ) (before : List Entry) (a : Act) → IsChange a → key_of a < length names → FitsRules t names c before a
 fits_any t names c before (Hold p key ty changes) h named = absurd h
 fits_any t names c before (Free p key) h named = absurd h
 fits_any t names c before (Call p key site args verdict) h named = absurd h
-fits_any t names c before (Retype key site) h named = record { row = tt; hold = tt; free = tt; whole = tt; named = named }
-fits_any t names c before (Busy key pins) h named = record { row = tt; hold = tt; free = tt; whole = tt; named = named }
-fits_any t names c before (WornType key) h named = record { row = tt; hold = tt; free = tt; whole = tt; named = named }
-fits_any t names c before (Define key site) h named = record { row = tt; hold = tt; free = tt; whole = tt; named = named }
-fits_any t names c before (WornDef key) h named = record { row = tt; hold = tt; free = tt; whole = tt; named = named }
+fits_any _ _ _ _ _ _ named = record { row = tt; hold = tt; free = tt; whole = tt; named = named }
 
 -- it asks for the name of its key
 asks_key : (names asked : List Name) (a : Act) → IsChange a → asked_by names asked a ≡ with_key names asked (key_of a)
 asks_key names asked (Hold p key ty changes) h = absurd h
 asks_key names asked (Free p key) h = absurd h
 asks_key names asked (Call p key site args verdict) h = absurd h
-asks_key names asked (Retype key site) h = refl
-asks_key names asked (Busy key pins) h = refl
-asks_key names asked (WornType key) h = refl
-asks_key names asked (Define key site) h = refl
-asks_key names asked (WornDef key) h = refl
+asks_key _ _ _ _ = refl
 
 pub changes_stand : (c k : ℕ) (old new : List Entry) → Changes c k old new → (q : ℕ) → stands c q new ≡ stands c q old
 changes_stand c k old new h q = adds_apart c q old new h.act h.adds (has_no_part q h.act h.apart)

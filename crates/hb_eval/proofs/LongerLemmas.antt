@@ -67,11 +67,8 @@ unfolding loop
 stays_loop test body test' body' h k s = stays_turns (suc s.fuel) test body test' body' h k s
 
 stays_named : (id : ℕ) (v : Value) (s : St) (f g : List ℕ → Answer) → ((bytes : List ℕ) → Stays (f bytes) (g bytes)) → Stays (named id v s f) (named id v s g)
-stays_named id value.Nil s f g k = same _
-stays_named id (value.Bool b) s f g k = same _
-stays_named id (value.Int n) s f g k = same _
-stays_named id (value.Object c) s f g k = same _
 stays_named id (value.Str bytes) s f g k = stays_if (is_name bytes) _ _ _ _ (k bytes) (same _)
+stays_named _ _ _ _ _ _ = same _
 
 -- behind a full list there is no other
 no_longer : (names longer : List Name) → IsPrefix names longer → length names ≡ NAMES_MAX → length longer ≤ NAMES_MAX → longer ≡ names
@@ -106,14 +103,6 @@ module _ (names longer : List Name) (p : IsPrefix names longer) (few : length lo
   module _ (t : Table) (call more : Calls) (ok : (id : ℕ) (r : Value) (m : ℕ) (vs : List Value) (s : St) → Stays (call id r m vs s) (more id r m vs s)) where
     mutual
       stays_ev : (e : Tree) (s : St) → Stays (ev t names call e s) (ev t longer more e s)
-      stays_ev (TNil id) s = same _
-      stays_ev (TTrue id) s = same _
-      stays_ev (TFalse id) s = same _
-      stays_ev (TSelf id) s = same _
-      stays_ev (TInt id n) s = same _
-      stays_ev (TText id x) s = same _
-      stays_ev (TVar id x) s = same _
-      stays_ev (TNew id c) s = same _
       stays_ev (TAssign id x e) s = stays_begin id s _ _ (λ s. stays_then (ev t names call e s) (ev t longer more e s) _ _ (stays_ev e s) (λ v s. same _))
       stays_ev (TPrint id e) s = stays_begin id s _ _ (λ s. stays_then (ev t names call e s) (ev t longer more e s) _ _ (stays_ev e s) (λ v s. same _))
       stays_ev (TToStr id e) s = stays_begin id s _ _ (λ s. stays_then (ev t names call e s) (ev t longer more e s) _ _ (stays_ev e s) (λ v s. same _))
@@ -127,6 +116,7 @@ module _ (names longer : List Name) (p : IsPrefix names longer) (few : length lo
       stays_ev (TDeclare id c m site asks) s = stays_begin id s _ _ (λ s. stays_declare id asks (c, bytes_at t.names m) site s)
       stays_ev (TDeclareComputed id c e site asks) s = stays_begin id s _ _ (λ s. stays_then (ev t names call e s) (ev t longer more e s) _ _ (stays_ev e s) (λ v s. stays_named id v s _ _ (λ bytes. stays_declare id asks (c, bytes) site s)))
       stays_ev (TBlock id es) s = stays_items es value.Nil s
+      stays_ev _ _ = same _
 
       stays_items : (es : Forest) (v : Value) (s : St) → Stays (ev_items t names call es v s) (ev_items t longer more es v s)
       stays_items NoTree v s = same _
@@ -150,10 +140,7 @@ module _ (names longer : List Name) (p : IsPrefix names longer) (few : length lo
 
   stays_decided : (id : ℕ) (f g : St → Answer) → ((s : St) → Stays (f s) (g s)) → (v : Verdict) (s : St) → Stays (decided id f v s) (decided id g v s)
   stays_decided id f g k (verdict.Enter way) s = k s
-  stays_decided id f g k verdict.NoBody s = same _
-  stays_decided id f g k verdict.NoType s = same _
-  stays_decided id f g k verdict.BadArgs s = same _
-  stays_decided id f g k (verdict.IllTyped ill) s = same _
+  stays_decided _ _ _ _ _ _ = same _
 
   stays_called : (t : Table) (run go : ℕ → St → Answer) → ((block : ℕ) (s : St) → Stays (run block s) (go block s)) → (id : ℕ) (c : ClassId) (args : List Value) (r : Read) (s : St) → Stays (called t run id c args r s) (called t go id c args r s)
   stays_called t run go k id c args NoCall s = same _

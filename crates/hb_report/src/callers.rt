@@ -20,11 +20,7 @@ fn push_journal(all: &mut Vec<Entry>, entries: &[Entry], caller: usize) -> Resul
 }
 
 /// The entries of so many callers, from the setup's on, one caller behind the other.
-pub fn journals(
-    alloc: Global,
-    entries: &[Entry],
-    callers: usize,
-) -> Result<Vec<Entry>, AllocError>
+pub fn journals(alloc: Global, entries: &[Entry], callers: usize) -> Result<Vec<Entry>, AllocError>
     ensures { IfOk result (λ all. all.items ≡ journals callers entries.now) }
 {
     let mut all = Vec::new(alloc);

@@ -69,16 +69,6 @@ pub record HasEntry (names : List Name) (name : Name) (log : List Entry) : Type 
 pub entry_behind : (names : List Name) (name : Name) (e : Entry) (es : List Entry) → HasEntry names name es → HasEntry names name (e ∷ es)
 entry_behind names name e es x = record { before = e ∷ x.before; e = x.e; after = x.after; is = ap (λ l. e ∷ l) x.is; key = x.key }
 
-pub in_log : (names : List Name) (name : Name) (c : ℕ) (log : List Entry) → IsAskedBy names name (acts c log) → HasEntry names name log
-in_log names name c [] h = absurd h
-in_log names name c (e ∷ es) h = go (c == e.caller.0) (in_log names name c es) h
-  where
-    go : (own : Bool) → (IsAskedBy names name (acts c es) → HasEntry names name es) → IsAskedBy names name (cond own (e.act ∷ acts c es) (acts c es)) → HasEntry names name (e ∷ es)
-    go true onward (inl key) = record { before = []; e = e; after = es; is = refl; key = key }
-    go true onward (inr later) = entry_behind names name e es (onward later)
-    go false onward later = entry_behind names name e es (onward later)
-
--- each key of the names is that of an entry
 pub used_all : (names : List Name) (log : List Entry) → Differ names → ((name : Name) → Contains names name → HasEntry names name log) → (key : ℕ) → key < length names → IsUsed names log key
 used_all names log differ has key below =
     let there = some_at names key below in

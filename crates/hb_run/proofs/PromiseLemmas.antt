@@ -37,10 +37,7 @@ enters-fresh v (way, is) = ap as_fresh is
 
 fresh-enters : (v : Verdict) → as_fresh v ≡ verdict.Enter by.Fresh → DoesEnter v
 fresh-enters (verdict.Enter way) e = (way, refl)
-fresh-enters verdict.NoBody e = absurd cc
-fresh-enters verdict.NoType e = absurd cc
-fresh-enters verdict.BadArgs e = absurd cc
-fresh-enters (verdict.IllTyped f) e = absurd cc
+fresh-enters _ e = absurd cc
 
 abbrev pub Enters : Type 0
 Enters = (t : Table) (types : Types) (class : ℕ) (b : Option Body) (m : Option MethodTy) (kinds : List Ty)
@@ -51,13 +48,7 @@ pub enters-rightly : Enters → (t : Table) (names : List Name) (c : ℕ) (befor
 enters-rightly law t names c before (Call q key site args v) row =
     let same = law t (types_in t names before) row.0.name.0 (body_at t site) (type_of_key t before key.0) (kinds_of args) in
     (row.0.name, row.0.is, row.0.defined, ((λ enters. same.0 (sym row.0.rules ∙ enters-fresh v enters)), (λ reaches. fresh-enters v (row.0.rules ∙ same.1 reaches))))
-enters-rightly law t names c before (Hold q key ty changes) row = tt
-enters-rightly law t names c before (Free q key) row = tt
-enters-rightly law t names c before (Retype key site) row = tt
-enters-rightly law t names c before (Busy key pins) row = tt
-enters-rightly law t names c before (WornType key) row = tt
-enters-rightly law t names c before (Define key site) row = tt
-enters-rightly law t names c before (WornDef key) row = tt
+enters-rightly _ _ _ _ _ _ _ = tt
 
 -- what is true of each run is true of all
 run-all : (P : Told → Type 0) (t : Table) (names : List Name) (steps : ℕ) (log : List Entry) → ((c : ℕ) (r : Told) → IsRunOf t names steps log c r → P r)

@@ -191,10 +191,8 @@ module _ (t : Table) (names : List Name) (limit : ℕ) (log : List Entry) (c : �
   no_room : (G : Variables) (Inv : Rest) (me id m : ℕ) (r : Value) (vs : List Value) (d : ClassId) (a : Ty) (s : St) → Conforms r (ty.Class d) → Sound Inv me G a (call_in t names 0 id r m vs s)
   unfolding call_in
   no_room G Inv me id m value.Nil vs d a s h = tt
-  no_room G Inv me id m (value.Bool b) vs d a s h = absurd (cc)
-  no_room G Inv me id m (value.Int n) vs d a s h = absurd (cc)
-  no_room G Inv me id m (value.Str x) vs d a s h = absurd (cc)
   no_room G Inv me id m (value.Object b) vs d a s h = tt
+  no_room G _ me id m _ vs d a s h = absurd (cc)
 
   on_nil : (G : Variables) (Inv : Rest) (me room id m : ℕ) (vs : List Value) (a : Ty) (s : St) → Sound Inv me G a (call_in t names (suc room) id value.Nil m vs s)
   unfolding call_in
@@ -205,9 +203,6 @@ module _ (t : Table) (names : List Name) (limit : ℕ) (log : List Entry) (c : �
       → Holds t names c f (d.0, m) → types_in t names f.before (d.0, m) ≡ Some declared → Conforms r (ty.Class d) → AllConform vs ts → length ts ≡ declared.count → all_below ts (types_of declared) ≡ true → Stands (AreLive log c (f ∷ fs)) me G s
       → Sound (AreLive log c (f ∷ fs)) me G declared.result (call_in t names (suc room) id r m vs s)
   frame_call room ih me fs f G id m d value.Nil vs ts declared s used typed is are n b stands = on_nil G (AreLive log c (f ∷ fs)) me room id m vs declared.result s
-  frame_call room ih me fs f G id m d (value.Bool x) vs ts declared s used typed is are n b stands = absurd (cc)
-  frame_call room ih me fs f G id m d (value.Int x) vs ts declared s used typed is are n b stands = absurd (cc)
-  frame_call room ih me fs f G id m d (value.Str x) vs ts declared s used typed is are n b stands = absurd (cc)
   frame_call room ih me fs f G id m d (value.Object x) vs ts declared s used typed is are n b stands =
       let Inv : Rest = AreLive log c (f ∷ fs) in
       let l = stands.inv.0 in
@@ -224,6 +219,7 @@ module _ (t : Table) (names : List Name) (limit : ℕ) (log : List Entry) (c : �
         done = λ before at other has a ends. let k : other ≡ declared = some_same other declared (sym has ∙ known before at) in
             ends_sound Inv me G declared.result s a stands.vars stands.self (subst (λ (o : MethodTy). Ends Inv o.result s.vars s.self a) k ends);
       })
+  frame_call room ih me fs f G id m d _ vs ts declared s used typed is are n b stands = absurd (cc)
 
   -- by induction on the room for frames
   pub within : (room : ℕ) → Within room

@@ -89,14 +89,17 @@ is_legal =
 
 the_call : FitsCall program names 1 front entered.act
 unfolding at_place int_method program names typed defined held entered front ◌>>=◌ behind tree_at tree_down
-the_call = (record {
-  name = (0, codes "f");
-  is = refl;
-  defined = refl;
-  rules = refl;
-  held = λ p i. (0, (let e : (0, codes "f") ≡ p = one p i.0 i.1 i.2 in subst (λ r. place names r ≡ Some 0) e refl), refl);
-  only = λ j h. ((0, codes "f"), (0, omega arith, refl), here j (eqb j 0) refl h);
-}, refl)
+the_call = (
+  record {
+    name = (0, codes "f");
+    is = refl;
+    defined = refl;
+    rules = refl;
+    held = λ p i. (0, (let e : (0, codes "f") ≡ p = one p i.0 i.1 i.2 in subst (λ r. place names r ≡ Some 0) e refl), refl);
+    only = λ j h. ((0, codes "f"), (0, omega arith, refl), here j (eqb j 0) refl h);
+  },
+  refl,
+)
   where
     one : (p : Name) (k : ℕ) → k < 1 → get_or ((0, codes "f") ∷ []) k p ≡ p → (0, codes "f") ≡ p
     one p zero l e = e

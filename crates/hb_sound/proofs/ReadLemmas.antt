@@ -97,29 +97,17 @@ call_reads q k kinds p j site args v held l pq jk same = by v
 
 decision_reads : (fits : Bool) (q k : ℕ) (kinds : List Ty) (held : List Stand) (l : List Act) → HasRead q k kinds l (decision fits q k kinds held l)
 unfolding HasRead
-decision_reads fits q k kinds held [] = tt
 decision_reads fits q k kinds held (Hold p j ty n ∷ l) = read_if q k kinds (Hold p j ty n ∷ l) (fits && nat_eq p.0 q) _ Lost (λ e. read_behind q k kinds (Hold p j ty n) l _ (λ m ne. refl) (decision_reads fits q k kinds (held ++ record { key = j.0; ty = ty; changes = n } ∷ []) l)) tt
 decision_reads fits q k kinds held (Free p j ∷ l) = read_if q k kinds (Free p j ∷ l) (fits && nat_eq p.0 q) _ Lost
     (λ e. read_if q k kinds (Free p j ∷ l) (nat_eq j.0 k) _ _ (λ _. full_reads q k kinds (Free p j ∷ l) (freed q held (Free p j ∷ l))) (read_behind q k kinds (Free p j) l _ (other_free q p j (and_both _ _ e).1) (decision_reads fits q k kinds (all_but j.0 held) l))) tt
 decision_reads fits q k kinds held (Call p j site args v ∷ l) = read_if q k kinds (Call p j site args v ∷ l) (nat_eq p.0 q && nat_eq j.0 k && same_kinds kinds (kinds_of args)) (called q site v held l) Lost
     (λ e. let a = and_both _ _ e in let b = and_both _ _ a.0 in call_reads q k kinds p j site args v held l (eqb-true p.0 q b.0) (eqb-true j.0 k b.1) (kinds_same kinds (kinds_of args) a.1)) tt
-decision_reads fits q k kinds held (Retype j site ∷ l) = tt
-decision_reads fits q k kinds held (Busy j pins ∷ l) = tt
-decision_reads fits q k kinds held (WornType j ∷ l) = tt
-decision_reads fits q k kinds held (Define j site ∷ l) = tt
-decision_reads fits q k kinds held (WornDef j ∷ l) = tt
+decision_reads _ _ _ _ _ _ = tt
 
 pub call_of_reads : (t : Table) (q k : ℕ) (kinds : List Ty) (l : List Act) → HasRead q k kinds l (call_of t q k kinds l)
 unfolding HasRead
-call_of_reads t q k kinds [] = tt
 call_of_reads t q k kinds (Hold p j ty n ∷ l) = read_if q k kinds (Hold p j ty n ∷ l) (nat_eq p.0 q && nat_eq j.0 k) _ Lost (λ e. read_behind q k kinds (Hold p j ty n) l _ (λ m ne. refl) (decision_reads (takes_at t ty kinds) q k kinds (record { key = j.0; ty = ty; changes = n } ∷ []) l)) tt
-call_of_reads t q k kinds (Free p j ∷ l) = tt
-call_of_reads t q k kinds (Call p j site args v ∷ l) = tt
-call_of_reads t q k kinds (Retype j site ∷ l) = tt
-call_of_reads t q k kinds (Busy j pins ∷ l) = tt
-call_of_reads t q k kinds (WornType j ∷ l) = tt
-call_of_reads t q k kinds (Define j site ∷ l) = tt
-call_of_reads t q k kinds (WornDef j ∷ l) = tt
+call_of_reads _ _ _ _ _ = tt
 
 -- Frees of one call were read, which free no other
 pub record FreesRead (q : ℕ) (l rest : List Act) : Type 0 where
@@ -129,16 +117,9 @@ pub record FreesRead (q : ℕ) (l rest : List Act) : Type 0 where
 
 pub freed_reads : (q : ℕ) (held : List Stand) (l rest : List Act) → freed q held l ≡ Some rest → FreesRead q l rest
 freed_reads q [] l rest e = record { front = []; is = cc; quiet = λ n ne. tt }
-freed_reads q (h ∷ hs) [] rest e = absurd (cc)
 freed_reads q (h ∷ hs) (Free p j ∷ l) rest e = go (nat_eq p.0 q && nat_eq j.0 h.key) refl e (freed_reads q hs l rest)
   where
     go : (b : Bool) → (nat_eq p.0 q && nat_eq j.0 h.key) ≡ b → (if b then freed q hs l else None) ≡ Some rest → (freed q hs l ≡ Some rest → FreesRead q l rest) → FreesRead q (Free p j ∷ l) rest
     go true t e r = let s = r e in record { front = Free p j ∷ s.front; is = ap (λ w. Free p j ∷ w) s.is; quiet = λ n ne. (other_free q p j (and_both _ _ t).0 n ne, s.quiet n ne) }
     go false t e r = absurd (cc)
-freed_reads q (h ∷ hs) (Hold p j ty n ∷ l) rest e = absurd (cc)
-freed_reads q (h ∷ hs) (Call p j site args v ∷ l) rest e = absurd (cc)
-freed_reads q (h ∷ hs) (Retype j site ∷ l) rest e = absurd (cc)
-freed_reads q (h ∷ hs) (Busy j pins ∷ l) rest e = absurd (cc)
-freed_reads q (h ∷ hs) (WornType j ∷ l) rest e = absurd (cc)
-freed_reads q (h ∷ hs) (Define j site ∷ l) rest e = absurd (cc)
-freed_reads q (h ∷ hs) (WornDef j ∷ l) rest e = absurd (cc)
+freed_reads q _ _ rest e = absurd (cc)

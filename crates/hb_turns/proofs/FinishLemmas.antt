@@ -83,10 +83,3 @@ pub ended_all : (t : Table) (steps c : ℕ) (names : List Name) (log : List Entr
 ended_all t steps c names log us [] are over = tt
 ended_all t steps c names log us (p ∷ ps) are over =
     (subst (λ (o : Bool). IsAt o p.machine) (over 0 p (omega arith) refl) are.0.at, ended_all t steps (suc c) names log us ps are.1 (λ i x low is. over (suc i) x (omega (arith, low)) is))
-
-pub ended_at : (ps before after : List Player) (p : Player) → AllByRecursion (λ (p : Player). HasEnded p.machine) ps → before ++ p ∷ after ≡ ps → HasEnded p.machine
-ended_at ps before after p all is = go before (subst (AllByRecursion (λ (x : Player). HasEnded x.machine)) (sym is) all)
-  where
-    go : (xs : List Player) → AllByRecursion (λ (x : Player). HasEnded x.machine) (xs ++ p ∷ after) → HasEnded p.machine
-    go [] h = h.0
-    go (x ∷ xs) h = go xs h.1

@@ -11,9 +11,6 @@ use Rattle.hb_turns.specs.Players.{AreOver, Follows, GoOn, GoesOne, HaveGone, Is
 use Rattle.hb_turns.proofs.OrderLemmas.{order_passes, order_rests, order_starts, order_takes, passes_over, passes_unknown}
 use Rattle.hb_turns.proofs.PlayerLemmas.{set_length}
 
-pub gone_starts : (t : Table) (limit : ℕ) (order : List ℕ) (names : List Name) (log : List Entry) (ps : List Player) → HaveGone t limit order order names names log log ps ps
-gone_starts t limit order names log ps = record { turns = []; named = prefix_itself names; played = λ steps start h. h; in_order = order_starts order (callers_from 1 t.scripts) ps; many = refl }
-
 pub gone_passes : (t : Table) (limit c : ℕ) (order rest : List ℕ) (names longer : List Name) (old new : List Entry) (was now : List Player) → (c ≡ 0) ⊎ (length now < c)
     → HaveGone t limit order (c ∷ rest) names longer old new was now → HaveGone t limit order rest names longer old new was now
 gone_passes t limit c order rest names longer old new was now unknown g = record {

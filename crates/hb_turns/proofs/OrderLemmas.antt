@@ -100,9 +100,6 @@ none_over c (suc at) (x ∷ ps) p left may there over =
 all_turns : (us : List Taken) (u : Taken) (left : ℕ → ℕ) (order cs : List ℕ) → turn_order order (λ d. turns_by d (us ++ u ∷ []) + left d) cs ≡ turn_order order (λ d. turns_by d us + with_turn u.caller left d) cs
 all_turns us u left order cs = order_same (λ d. turns_by d (us ++ u ∷ []) + left d) (λ d. turns_by d us + with_turn u.caller left d) (λ d. let m = turns_more d us u in omega (arith, m)) order cs
 
-pub order_starts : (order cs : List ℕ) (ps : List Player) → IsInOrder order order cs [] ps
-order_starts order cs ps = λ left zero_is may. order_same (λ c. turns_by c [] + left c) left (λ d. omega arith) order cs
-
 pub order_takes : (order rest cs : List ℕ) (us : List Taken) (u : Taken) (at : ℕ) (ps : List Player) (p q : Player) → u.caller ≡ 1 + at → slice_get ps at ≡ Some p → p.over ≡ false
     → IsInOrder order (u.caller ∷ rest) cs us ps → IsInOrder order rest cs (us ++ u ∷ []) (slice_set ps at q)
 order_takes order rest cs us u at ps p q mine there goes before = λ left zero_is may.
