@@ -8,7 +8,7 @@ use Rattle.hb_run.specs.History.{callers_from}
 use Rattle.hb_call.specs.GrowthLaws.{prefix_itself, prefix_more}
 use Rattle.hb_turns.specs.declared.player.Player.{Player}
 use Rattle.hb_turns.specs.Players.{AreOver, Follows, GoOn, GoesOne, HaveGone, IsInOrder, TookTurn, weight, weight_at}
-use Rattle.hb_turns.proofs.OrderLemmas.{order_passes, order_rests, order_starts, order_takes, passes_over, passes_unknown}
+use Rattle.hb_turns.proofs.OrderLemmas.{order_passes, order_rests, order_takes, passes_over, passes_unknown}
 use Rattle.hb_turns.proofs.PlayerLemmas.{set_length}
 
 pub gone_passes : (t : Table) (limit c : ℕ) (order rest : List ℕ) (names longer : List Name) (old new : List Entry) (was now : List Player) → (c ≡ 0) ⊎ (length now < c)
