@@ -1,0 +1,409 @@
+-- What is asked of the tables has one answer.
+use Rattle.std.proofs.Common.{◌≡◌, ◌⊎◌, inl, inr, ℕ, suc, ◌+◌, ◌≤◌, Bool, true, false, List, [], ◌∷◌, ◌++◌, length, length-append, map, Option, Some, None, refl, sym, ap, ◌∙◌, subst, arith, append_assoc, eq-eqb, cond, eqb}
+use Rattle.std.specs.Prelude.{Contains}
+use Rattle.std.proofs.lemmas.List.{append_cancel_left, append-nil}
+use Rattle.std.proofs.lemmas.Option.{none-some, same_Some}
+use mathlib.Core.List.{IsPrefix}
+use Rattle.hb_types.specs.declared.ids.CallNo.{CallNo}
+use Rattle.hb_types.specs.declared.ids.KeyId.{KeyId}
+use Rattle.hb_types.specs.declared.ids.BodySite.{BodySite}
+use Rattle.hb_types.specs.declared.ids.TypeSite.{TypeSite}
+use Rattle.hb_types.specs.declared.types.Ty.{Ty}
+use Rattle.hb_types.specs.declared.types.MethodTy.{MethodTy}
+use Rattle.hb_tree.specs.declared.parts.Body.{Body}
+use Rattle.hb_tree.specs.Table.{Table}
+use Rattle.hb_deriv.specs.Judge.{Key, Types}
+use Rattle.hb_deriv.specs.Events.{looks}
+use Rattle.hb_names.specs.declared.names.TheConstants.{NAMES_MAX}
+use Rattle.hb_names.specs.Names.{Name, place}
+use Rattle.hb_names.proofs.NameLemmas.{place-apart}
+use Rattle.hb_tables.specs.declared.entry.Act.{Act}
+use Rattle.hb_tables.specs.declared.entry.Act.TheVariants.{Hold, Free, Retype, Busy, WornType, Define, WornDef, Call}
+use Rattle.hb_tables.specs.declared.entry.ArgKinds.{ArgKinds}
+use Rattle.hb_tables.specs.declared.entry.By.{By}
+use Rattle.hb_tables.specs.declared.entry.By.TheVariants as by
+use Rattle.hb_tables.specs.declared.entry.Verdict.{Verdict}
+use Rattle.hb_tables.specs.declared.entry.Verdict.TheVariants as verdict
+use Rattle.hb_tables.specs.declared.entry.Entry.{Entry}
+use Rattle.hb_tables.specs.Frames.{acts, KeepsHold}
+use Rattle.hb_tables.specs.History.{FitsAct, IsLegal, Spot, entry, key_of, spot, times, same_call}
+use Rattle.hb_tables.specs.Names.{name_of}
+use Rattle.hb_tables.specs.Rows.{HoldsName, IsDecided, body_at, fill, kinds_of, type_of_key, types_in, verdict_in}
+use Rattle.hb_tables.specs.Standing.{count_of}
+use Rattle.hb_tables.specs.Verdicts.{as_fresh, looks_of, subject, takes}
+use Rattle.hb_tables.proofs.FrameLemmas.{acts_append, hold_stays, keeps_parts}
+use Rattle.hb_tables.proofs.HistoryLemmas.{redefs_grow, redefs_same, spot_more, turn_here}
+use Rattle.hb_tables.proofs.StandingLemmas.{held_stands}
+use Rattle.hb_call.specs.Held.{HasCall}
+use Rattle.hb_call.specs.Rules.{Began, EntersBy, FitsFree, FitsHold, FitsRules, GivesUp, HoldsNext, IsFullRightly, IsNextLook, IsRightWay, IsWay, runs}
+use Rattle.hb_ordered.specs.Asking.{Question, Defines, Declares, Starts, Goes, Ends, Answers, Defined, Undefined, Retyped, Held, Worn, Started, Looked, GaveBack, Decided, Ended, IsAnswer, IsAsked, IsOpen, TakesAt, FitsArguments}
+
+-- ── a `def`, a `type`, the first Hold of a call and its last Frees ──
+
+define_one : (limit c : ℕ) (log : List Entry) (k s : ℕ) (a b : Act) → Answers (Defines k s) a → Answers (Defines k s) b → FitsAct limit c (spot (key_of a) log) a → FitsAct limit c (spot (key_of b) log) b → a ≡ b
+define_one limit c log _ _ _ _ (Defined key site) (Defined _ _) x y = refl
+define_one limit c log _ _ _ _ (Defined key site) (Undefined s _) x y = absurd (omega (arith, x.0, y))
+define_one limit c log _ _ _ _ (Undefined s key) (Defined _ site) x y = absurd (omega (arith, x, y.0))
+define_one limit c log _ _ _ _ (Undefined s key) (Undefined _ _) x y = refl
+
+declare_one : (limit c : ℕ) (log : List Entry) (k s : ℕ) (a b : Act) → Answers (Declares k s) a → Answers (Declares k s) b → FitsAct limit c (spot (key_of a) log) a → FitsAct limit c (spot (key_of b) log) b → a ≡ b
+declare_one limit c log _ _ _ _ (Retyped key site) (Retyped _ _) x y = refl
+declare_one limit c log _ _ _ _ (Retyped key site) (Held s _ pins) x y = absurd (omega (arith, x.0, y.0, y.1))
+declare_one limit c log _ _ _ _ (Retyped key site) (Worn s _) x y = absurd (omega (arith, x.1, y.1))
+declare_one limit c log _ _ _ _ (Held s key pins) (Retyped _ site) x y = absurd (omega (arith, y.0, x.0, x.1))
+declare_one limit c log _ _ _ _ (Held s key pins) (Held _ _ other) x y = ap (λ n. Busy key n) (x.0 ∙ sym y.0)
+declare_one limit c log _ _ _ _ (Held s key pins) (Worn _ _) x y = absurd (omega (arith, y.0, x.0, x.1))
+declare_one limit c log _ _ _ _ (Worn s key) (Retyped _ site) x y = absurd (omega (arith, y.1, x.1))
+declare_one limit c log _ _ _ _ (Worn s key) (Held _ _ pins) x y = absurd (omega (arith, x.0, y.0, y.1))
+declare_one limit c log _ _ _ _ (Worn s key) (Worn _ _) x y = refl
+
+-- a Hold finds what there is
+hold_one : (limit c : ℕ) (log : List Entry) (q : CallNo) (key other : KeyId) (ty ty' : Option TypeSite) (n n' : ℕ) → key ≡ other → FitsAct limit c (spot key.0 log) (Hold q key ty n) → FitsAct limit c (spot other.0 log) (Hold q other ty' n') → Hold q key ty n ≡ Hold q other ty' n'
+hold_one limit c log q key other ty ty' n n' same x y =
+    let at : spot key.0 log ≡ spot other.0 log = ap (λ (k : KeyId). spot k.0 log) same in
+    ap (λ (k : KeyId). Hold q k ty n) same ∙ ap (λ (o : Option TypeSite). Hold q other o n) (x.0 ∙ ap (λ (s : Spot). s.ty) at ∙ sym y.0) ∙ ap (λ m. Hold q other ty' m) (x.1 ∙ ap (λ (s : Spot). s.changes) at ∙ sym y.1)
+
+start_one : (limit c : ℕ) (log : List Entry) (q k : ℕ) (a b : Act) → Answers (Starts q k) a → Answers (Starts q k) b → FitsAct limit c (spot (key_of a) log) a → FitsAct limit c (spot (key_of b) log) b → a ≡ b
+start_one limit c log _ _ _ _ (Started q key ty n) (Started _ _ ty' n') x y = hold_one limit c log q key key ty ty' n n' refl x y
+
+end_one : (q k : ℕ) (a b : Act) → Answers (Ends q k) a → Answers (Ends q k) b → a ≡ b
+end_one _ _ _ _ (Ended q key) (Ended _ _) = refl
+
+-- ── a call begins once ──
+
+pub split : (xs ys before after : List Entry) (e : Entry) → xs ++ ys ≡ before ++ e ∷ after → (IsPrefix xs before) ⊎ ((rest : List Entry) × (xs ≡ before ++ e ∷ rest))
+split [] ys before after e is = inl (before, refl)
+split (x ∷ xs) ys [] after e is = inr (xs, let h : x ≡ e = cc is in ap (λ y. y ∷ xs) h)
+split (x ∷ xs) ys (b ∷ before) after e is = let h : x ≡ b = cc is in elim (split xs ys before after e (cc is)) [ inl p ↦ inl (p.0, cc (h, p.1)) | inr r ↦ inr (r.0, cc (h, r.1)) ]
+
+last_same : (xs ys : List Entry) (x y : Entry) → xs ++ x ∷ [] ≡ ys ++ y ∷ [] → x ≡ y
+last_same [] [] x y e = cc e
+last_same [] (b ∷ []) x y e = cc e
+last_same [] (b ∷ d ∷ ys) x y e = cc e
+last_same (a ∷ []) [] x y e = cc e
+last_same (a ∷ d ∷ xs) [] x y e = cc e
+last_same (a ∷ xs) (b ∷ ys) x y e = last_same xs ys x y (cc e)
+
+nothing_behind : (xs ys rest back : List Entry) → xs ≡ ys ++ rest → ys ≡ xs ++ back → xs ≡ ys
+nothing_behind xs ys [] back e f = e ∙ append-nil ys
+nothing_behind xs ys (r ∷ rest) back e f = absurd (let n = ap length e in let m = ap length f in let a = length-append ys (r ∷ rest) in let b = length-append xs back in omega (arith, n, m, a, b))
+
+same_self : (x : ℕ × ℕ) → same_call x x ≡ true
+same_self x = let a = eq-eqb x.0 x.0 refl in let b = eq-eqb x.1 x.1 refl in rw (a, b) refl
+
+start_holds : (c : ℕ) (q : CallNo) (key : KeyId) (before : List Entry) (ty : Option TypeSite) (n : ℕ) → 1 ≤ times (c, q.0) (spot key.0 (before ++ entry c (Hold q key ty n) ∷ [])).calls
+start_holds c q key before ty n =
+    let e : Entry = entry c (Hold q key ty n) in
+    let one = same_self (c, q.0) in
+    subst (λ (s : Spot). 1 ≤ times (c, q.0) s.calls) (sym (spot_more key.0 before e ∙ turn_here key.0 (spot key.0 before) e refl)) (rw one (omega arith))
+
+-- the key of a call that began is held
+began_holds : (c : ℕ) (q : CallNo) (key : KeyId) (start log : List Entry) → Began c q key start log → 1 ≤ times (c, q.0) (spot key.0 log).calls
+began_holds c q key start log b =
+    subst (λ l. 1 ≤ times (c, q.0) (spot key.0 l).calls) b.goes
+    (hold_stays key.0 c q.0 start b.since b.keeps (subst (λ l. 1 ≤ times (c, q.0) (spot key.0 l).calls) (sym b.is) (start_holds c q key b.before b.ty b.changes)))
+
+-- a call that began did not begin again since
+not_again : (c : ℕ) (q : CallNo) (key other : KeyId) (start later log : List Entry) → Began c q key start log → (b : Began c q other later log) → IsPrefix start b.before → ⊥
+not_again c q key other start later log a b p =
+    let e : Entry = entry c (Hold q other b.ty b.changes) in
+    let goes : start ++ (p.0 ++ e ∷ b.since) ≡ start ++ a.since =
+    sym (append_assoc start p.0 (e ∷ b.since)) ∙ ap (λ l. l ++ e ∷ b.since) p.1 ∙ sym (append_assoc b.before (e ∷ []) b.since) ∙ ap (λ l. l ++ b.since) (sym b.is) ∙ b.goes ∙ sym a.goes in
+    let rest : p.0 ++ e ∷ b.since ≡ a.since = append_cancel_left start (p.0 ++ e ∷ b.since) a.since goes in
+    let keeps : KeepsHold q.0 key.0 (acts c p.0) = (keeps_parts q.0 key.0 (acts c p.0) (acts c (e ∷ b.since)) (subst (KeepsHold q.0 key.0) (ap (acts c) (sym rest) ∙ acts_append c p.0 (e ∷ b.since)) a.keeps)).0 in
+    let held = hold_stays key.0 c q.0 start p.0 keeps (subst (λ l. 1 ≤ times (c, q.0) (spot key.0 l).calls) (sym a.is) (start_holds c q key a.before a.ty a.changes)) in
+    let here : 1 ≤ times (c, q.0) (spot key.0 b.before).calls = subst (λ l. 1 ≤ times (c, q.0) (spot key.0 l).calls) p.1 held in
+    let none : times (c, q.0) (spot key.0 b.before).calls ≡ 0 = held_stands c q.0 key.0 b.before ∙ ap (count_of key.0) b.none in
+    omega (arith, here, none)
+
+-- the list in which a call begins goes on with its rest
+starts_at : (c : ℕ) (q : CallNo) (key : KeyId) (start log : List Entry) (b : Began c q key start log) → log ≡ b.before ++ entry c (Hold q key b.ty b.changes) ∷ b.since
+starts_at c q key start log b = sym b.goes ∙ ap (λ l. l ++ b.since) b.is ∙ append_assoc b.before (entry c (Hold q key b.ty b.changes) ∷ []) b.since
+
+-- a start is behind another one
+behind : (c : ℕ) (q : CallNo) (key other : KeyId) (start later log : List Entry) → Began c q key start log → Began c q other later log → (rest : List Entry) × (start ≡ later ++ rest)
+behind c q key other start later log a b = elim (split start a.since b.before b.since (entry c (Hold q other b.ty b.changes)) (a.goes ∙ starts_at c q other later log b)) [
+  | inl p ↦ absurd (not_again c q key other start later log a b p)
+  | inr r ↦ (r.0, r.1 ∙ sym (append_assoc b.before (entry c (Hold q other b.ty b.changes) ∷ []) r.0) ∙ ap (λ l. l ++ r.0) (sym b.is))
+]
+
+-- the key and the start are the same, wherever it is said that a call began
+pub one_began : (c : ℕ) (q : CallNo) (key other : KeyId) (start later log : List Entry) → Began c q key start log → Began c q other later log → (key ≡ other) × (start ≡ later)
+one_began c q key other start later log a b =
+    let x = behind c q key other start later log a b in
+    let y = behind c q other key later start log b a in
+    let same = nothing_behind start later x.0 y.0 x.1 y.1 in
+    let last = last_same a.before b.before (entry c (Hold q key a.ty a.changes)) (entry c (Hold q other b.ty b.changes)) (sym a.is ∙ same ∙ b.is) in
+    (held_key last, same)
+  where
+    held_key : entry c (Hold q key a.ty a.changes) ≡ entry c (Hold q other b.ty b.changes) → key ≡ other
+    held_key e = let acts_are : Hold q key a.ty a.changes ≡ Hold q other b.ty b.changes = ap (λ (x : Entry). x.act) e in cc acts_are
+
+-- ── in a list ──
+
+here_in : {X : Type 0} (x : X) (xs : List X) → Contains (x ∷ xs) x
+here_in x xs = (0, omega arith, refl)
+
+later_in : {X : Type 0} (x y : X) (xs : List X) → Contains xs y → Contains (x ∷ xs) y
+later_in x y xs h = (let low = h.1 in (suc h.0, omega (arith, low), h.2))
+
+in_second : {X Y : Type 0} (f : X → Y) (x : X) (xs ys : List X) → Contains (map f (xs ++ x ∷ ys)) (f x)
+in_second f x [] ys = here_in (f x) (map f ys)
+in_second f x (z ∷ xs) ys = later_in (f z) (f x) (map f (xs ++ x ∷ ys)) (in_second f x xs ys)
+
+-- two places of one list are one, or one of them is before the other
+places : {X Y : Type 0} (f : X → Y) (x y : X) (xs us ys vs : List X) → xs ++ x ∷ us ≡ ys ++ y ∷ vs → (x ≡ y) ⊎ (Contains (map f ys) (f x) ⊎ Contains (map f xs) (f y))
+places f x y [] us [] vs e = inl (cc e)
+places f x y [] us (b ∷ ys) vs e = inr (inl (let h : x ≡ b = cc e in subst (λ z. Contains (f b ∷ map f ys) (f z)) (sym h) (here_in (f b) (map f ys))))
+places f x y (a ∷ xs) us [] vs e = inr (inr (let h : a ≡ y = cc e in subst (λ z. Contains (f a ∷ map f xs) (f z)) h (here_in (f a) (map f xs))))
+places f x y (a ∷ xs) us (b ∷ ys) vs e = elim (places f x y xs us ys vs (cc e)) [
+  | inl same ↦ inl same
+  | inr (inl h) ↦ inr (inl (later_in (f b) (f x) (map f ys) h))
+  | inr (inr h) ↦ inr (inr (later_in (f a) (f y) (map f xs) h))
+]
+
+-- ── looks ──
+
+-- the looks, where the arguments fit
+every_look : Table → Types → ℕ → Option Body → Option MethodTy → List Key
+every_look t types class None m = []
+every_look t types class (Some b) None = []
+every_look t types class (Some b) (Some m) = looks types (subject t class b m)
+
+looks_defined : (t : Table) (types : Types) (class : ℕ) (b : Option Body) (m : Option MethodTy) (body : Body) (declared : MethodTy) → b ≡ Some body → m ≡ Some declared → every_look t types class b m ≡ looks types (subject t class body declared)
+unfolding every_look
+looks_defined t types class b m body declared e f = ap (λ (o : Option Body). every_look t types class o m) e ∙ ap (λ (o : Option MethodTy). every_look t types class (Some body) o) f
+
+looks_taken : (t : Table) (types : Types) (class : ℕ) (b : Option Body) (m : MethodTy) (kinds : List Ty) → takes m kinds ≡ true → looks_of t types class b (Some m) kinds ≡ every_look t types class b (Some m)
+unfolding every_look
+looks_taken t types class None m kinds fits = refl
+looks_taken t types class (Some b) m kinds fits = rw fits refl
+
+-- ── verdicts ──
+
+same_way : (c k : ℕ) (log : List Entry) (a b : By) → IsWay c [] k log a → IsWay c [] k log b → a ≡ b
+same_way c k log by.Own by.Own x y = refl
+same_way c k log by.Own by.Fresh x y = absurd (y x)
+same_way c k log by.Own by.Shared x y = absurd y
+same_way c k log by.Fresh by.Own x y = absurd (x y)
+same_way c k log by.Fresh by.Fresh x y = refl
+same_way c k log by.Fresh by.Shared x y = absurd y
+same_way c k log by.Shared b x y = absurd x
+
+-- a verdict that does not enter is that of a fresh check
+same_refusal : (v w : Verdict) → as_fresh v ≡ v → as_fresh v ≡ as_fresh w → ((way : By) → w ≡ verdict.Enter way → ⊥) → v ≡ w
+same_refusal v (verdict.Enter way) f e not = absurd (not way refl)
+same_refusal v verdict.NoBody f e not = sym f ∙ e
+same_refusal v verdict.NoType f e not = sym f ∙ e
+same_refusal v verdict.BadArgs f e not = sym f ∙ e
+same_refusal v (verdict.IllTyped g) f e not = sym f ∙ e
+
+enters_one : (v : Verdict) (way : By) → as_fresh v ≡ verdict.Enter by.Fresh → (w : By) × (v ≡ verdict.Enter w)
+enters_one (verdict.Enter w) way e = (w, refl)
+enters_one verdict.NoBody way e = absurd (cc e)
+enters_one verdict.NoType way e = absurd (cc e)
+enters_one verdict.BadArgs way e = absurd (cc e)
+enters_one (verdict.IllTyped g) way e = absurd (cc e)
+
+refuses : (v w : Verdict) (way : By) → as_fresh v ≡ as_fresh w → as_fresh v ≡ v → ((x : By) → v ≡ verdict.Enter x → ⊥) → w ≡ verdict.Enter way → ⊥
+refuses v w way e f not is = (let h = enters_one v way (e ∙ ap as_fresh is) in not h.0 h.1)
+
+same_verdict : (c k : ℕ) (log : List Entry) (v w : Verdict) → as_fresh v ≡ as_fresh w → IsRightWay c [] k log v → IsRightWay c [] k log w → v ≡ w
+same_verdict c k log (verdict.Enter a) w e x y = go w (enters_one w a (sym e)) y
+  where
+    go : (w : Verdict) → ((b : By) × (w ≡ verdict.Enter b)) → IsRightWay c [] k log w → verdict.Enter a ≡ w
+    go w h y = ap (λ b. verdict.Enter b) (same_way c k log a h.0 x (subst (IsRightWay c [] k log) h.1 y)) ∙ sym h.1
+same_verdict c k log verdict.NoBody w e x y = same_refusal verdict.NoBody w refl e (λ way. refuses verdict.NoBody w way e refl (λ b is. cc is))
+same_verdict c k log verdict.NoType w e x y = same_refusal verdict.NoType w refl e (λ way. refuses verdict.NoType w way e refl (λ b is. cc is))
+same_verdict c k log verdict.BadArgs w e x y = same_refusal verdict.BadArgs w refl e (λ way. refuses verdict.BadArgs w way e refl (λ b is. cc is))
+same_verdict c k log (verdict.IllTyped g) w e x y = same_refusal (verdict.IllTyped g) w refl e (λ way. refuses (verdict.IllTyped g) w way e refl (λ b is. cc is))
+
+-- ── what follows in a call ──
+
+some_run : (q : CallNo) (key : KeyId) (going : Bool) (l : List Act) → 1 ≤ runs q.0 going (l ++ Free q key ∷ []) + cond going 1 0
+some_run q key going [] = let same = eq-eqb q.0 q.0 refl in rw same (go going)
+  where
+    go : (going : Bool) → 1 ≤ (cond going 0 1 + 0) + cond going 1 0
+    go true = omega arith
+    go false = omega arith
+some_run q key going (Hold p j ty n ∷ l) = go (eqb q.0 p.0) (some_run q key false l) (some_run q key going l)
+  where
+    go : (b : Bool) → 1 ≤ runs q.0 false (l ++ Free q key ∷ []) + 0 → 1 ≤ runs q.0 going (l ++ Free q key ∷ []) + cond going 1 0 → 1 ≤ cond b (runs q.0 false (l ++ Free q key ∷ [])) (runs q.0 going (l ++ Free q key ∷ [])) + cond going 1 0
+    go true r x = omega (arith, r)
+    go false r x = x
+some_run q key going (Free p j ∷ l) = go (eqb q.0 p.0) going (some_run q key going l)
+  where
+    go : (b : Bool) (g : Bool) → 1 ≤ runs q.0 g (l ++ Free q key ∷ []) + cond g 1 0 → 1 ≤ cond b (cond g 0 1 + runs q.0 true (l ++ Free q key ∷ [])) (runs q.0 g (l ++ Free q key ∷ [])) + cond g 1 0
+    go true true x = omega arith
+    go true false x = omega arith
+    go false g x = x
+some_run q key going (Retype j site ∷ l) = some_run q key going l
+some_run q key going (Busy j pins ∷ l) = some_run q key going l
+some_run q key going (WornType j ∷ l) = some_run q key going l
+some_run q key going (Define j site ∷ l) = some_run q key going l
+some_run q key going (WornDef j ∷ l) = some_run q key going l
+some_run q key going (Call p j site args v ∷ l) = some_run q key going l
+
+module _ (t : Table) (limit : ℕ) (names : List Name) (c : ℕ) (log : List Entry) (q : CallNo) (mine : KeyId) (start : List Entry) (began : Began c q mine start log) (same : (spot mine.0 log).redefs ≡ (spot mine.0 start).redefs) where
+  -- a look of the call, behind those before it, which it holds
+  record Near (look : Key) : Type 0 where
+    pub name : Name
+    pub named : place names name ≡ Some mine.0
+    pub held : List Key
+    pub others : List Key
+    pub looks : every_look t (types_in t names log) name.0 (body_at t (spot mine.0 log).body) (type_of_key t log mine.0) ≡ held ++ look ∷ others
+    pub holds : (p : Name) → Contains (map (name_of t) held) p → HoldsName names log (c, q.0) p
+
+  near : (look : Key) → IsNextLook t names c q log look → Near look
+  near look n =
+      let one = one_began c q n.key mine n.start start log n.began began in
+      let from : IsPrefix start n.had.at = subst (λ (l : List Entry). IsPrefix l n.had.at) one.1 n.had.from in
+      let low = redefs_grow mine.0 start n.had.at from in
+      let high = redefs_grow mine.0 n.had.at log n.had.to in
+      let body : (spot mine.0 log).body ≡ (spot mine.0 n.had.at).body = redefs_same mine.0 n.had.at log n.had.to (omega (arith, low, high, same)) in
+      let site : n.site ≡ (spot mine.0 log).body = n.had.is ∙ ap (λ (k : KeyId). (spot k.0 n.had.at).body) one.0 ∙ sym body in
+      record {
+        name = n.name;
+        named = n.named ∙ ap (λ (k : KeyId). Some k.0) one.0;
+        held = n.held;
+        others = n.others;
+        looks = ap (λ (o : Option BodySite). every_look t (types_in t names log) n.name.0 (body_at t o) (type_of_key t log mine.0)) (sym site)
+            ∙ ap (λ (k : KeyId). every_look t (types_in t names log) n.name.0 (body_at t n.site) (type_of_key t log k.0)) (sym one.0)
+            ∙ looks_defined t (types_in t names log) n.name.0 (body_at t n.site) (type_of_key t log n.key.0) n.body n.declared n.defined n.typed ∙ n.order;
+        holds = n.holds;
+      }
+
+  -- two next looks are one, or one of them is held
+  meets : (a b : Key) → Near a → Near b → (a ≡ b) ⊎ (HoldsName names log (c, q.0) (name_of t a) ⊎ HoldsName names log (c, q.0) (name_of t b))
+  meets a b x y =
+      let name : x.name ≡ y.name = place-apart names x.name y.name mine.0 x.named y.named in
+      let lists : x.held ++ a ∷ x.others ≡ y.held ++ b ∷ y.others =
+      sym x.looks ∙ ap (λ (n : Name). every_look t (types_in t names log) n.0 (body_at t (spot mine.0 log).body) (type_of_key t log mine.0)) name ∙ y.looks in
+      elim (places (name_of t) a b x.held x.others y.held y.others lists) [
+        | inl is ↦ inl is
+        | inr (inl h) ↦ inr (inl (y.holds (name_of t a) h))
+        | inr (inr h) ↦ inr (inr (x.holds (name_of t b) h))
+      ]
+
+  -- a call that is decided holds each of its looks
+  decided_holds : (a : Key) (site : Option BodySite) (kinds : List Ty) (v : Verdict) → Near a → TakesAt t log mine.0 kinds → IsDecided t names log (c, q.0) mine.0 site kinds v → HoldsName names log (c, q.0) (name_of t a)
+  decided_holds a site kinds v x taken d =
+      let name : d.name ≡ x.name = place-apart names d.name x.name mine.0 d.is x.named in
+      let T = types_in t names log in
+      let all : looks_of t T d.name.0 (body_at t site) (type_of_key t log mine.0) kinds ≡ x.held ++ a ∷ x.others =
+      ap (λ (o : Option BodySite). looks_of t T d.name.0 (body_at t o) (type_of_key t log mine.0) kinds) d.defined
+      ∙ ap (λ (n : Name). looks_of t T n.0 (body_at t (spot mine.0 log).body) (type_of_key t log mine.0) kinds) name
+      ∙ ap (λ (m : Option MethodTy). looks_of t T x.name.0 (body_at t (spot mine.0 log).body) m kinds) taken.1
+      ∙ looks_taken t T x.name.0 (body_at t (spot mine.0 log).body) taken.0 kinds taken.2
+      ∙ ap (λ (m : Option MethodTy). every_look t T x.name.0 (body_at t (spot mine.0 log).body) m) (sym taken.1)
+      ∙ x.looks in
+      d.held (name_of t a) (later_in d.name (name_of t a) (map (name_of t) (looks_of t T d.name.0 (body_at t site) (type_of_key t log mine.0) kinds))
+          (subst (λ (l : List Key). Contains (map (name_of t) l) (name_of t a)) (sym all) (in_second (name_of t) a x.held x.others)))
+
+  -- what is taken next is not held yet
+  not_held : (key : KeyId) (ty : Option TypeSite) (n : ℕ) (look : Key) → place names (name_of t look) ≡ Some key.0 → FitsAct limit c (spot key.0 log) (Hold q key ty n) → HoldsName names log (c, q.0) (name_of t look) → ⊥
+  not_held key ty n look is fits h =
+      let at : h.0 ≡ key.0 = same_Some h.0 key.0 (sym h.1 ∙ is) in
+      let one : times (c, q.0) (spot key.0 log).calls ≡ 1 = subst (λ (j : ℕ). times (c, q.0) (spot j log).calls ≡ 1) at h.2 in
+      let none = fits.2 in
+      omega (arith, one, none)
+
+  -- a Hold of a call that has begun is that of its next look
+  looks_next : (key : KeyId) (ty : Option TypeSite) (n : ℕ) → FitsHold t names c log (Hold q key ty n) → HoldsNext t names c q key log
+  looks_next key ty n (inl none) = absurd (let held = began_holds c q mine start log began in let zero_held : times (c, q.0) (spot mine.0 log).calls ≡ 0 = held_stands c q.0 mine.0 log ∙ ap (count_of mine.0) none in omega (arith, held, zero_held))
+  looks_next key ty n (inr h) = h
+
+  -- a call that is not decided gives a key back where the list of names is full
+  full_next : (key : KeyId) → (HasCall c q.0 log → ⊥) → (GivesUp c q log → ⊥) → FitsFree t names c log (Free q key) → IsFullRightly t names c q key log
+  full_next key undecided goes_on (inl h) = absurd (undecided h)
+  full_next key undecided goes_on (inr (inl r)) =
+      let one = one_began c q r.first mine r.start start log r.began began in
+      let some = some_run q key false (acts c r.began.since) in
+      let few = r.few in
+      let old : (spot r.first.0 r.start).redefs ≡ (spot mine.0 start).redefs = ap (λ (k : KeyId). (spot k.0 r.start).redefs) one.0 ∙ ap (λ (l : List Entry). (spot mine.0 l).redefs) one.1 in
+      let new : (spot r.first.0 log).redefs ≡ (spot mine.0 log).redefs = ap (λ (k : KeyId). (spot k.0 log).redefs) one.0 in
+      absurd (omega (arith, some, few, old, new, same))
+  full_next key undecided goes_on (inr (inr (inl f))) = f
+  full_next key undecided goes_on (inr (inr (inr g))) = absurd (goes_on g)
+
+  no_place : (p : Name) → place names p ≡ None → HoldsName names log (c, q.0) p → ⊥
+  no_place p none h = none-some h.0 (sym none ∙ h.1)
+
+  hold_hold : (key other : KeyId) (ty ty' : Option TypeSite) (n n' : ℕ) → HoldsNext t names c q key log → HoldsNext t names c q other log → FitsAct limit c (spot key.0 log) (Hold q key ty n) → FitsAct limit c (spot other.0 log) (Hold q other ty' n') → Hold q key ty n ≡ Hold q other ty' n'
+  hold_hold key other ty ty' n n' a b x y = hold_one limit c log q key other ty ty' n n' (elim (meets a.look b.look (near a.look a.next) (near b.look b.next)) [
+    | inl is ↦ (let e : key.0 ≡ other.0 = same_Some key.0 other.0 (sym a.is ∙ ap (λ (l : Key). place names (name_of t l)) is ∙ b.is) in λ i. record { 0 = e i })
+    | inr (inl h) ↦ absurd (not_held key ty n a.look a.is x h)
+    | inr (inr h) ↦ absurd (not_held other ty' n' b.look b.is y h)
+  ]) x y
+
+  hold_free : (key other : KeyId) (ty : Option TypeSite) (n : ℕ) → length names ≤ NAMES_MAX → HoldsNext t names c q key log → IsFullRightly t names c q other log → FitsAct limit c (spot key.0 log) (Hold q key ty n) → ⊥
+  hold_free key other ty n few a f x = elim (meets a.look f.look (near a.look a.next) (near f.look f.next)) [
+    | inl is ↦ none-some key.0 (sym (f.full few).1 ∙ ap (λ (l : Key). place names (name_of t l)) (sym is) ∙ a.is)
+    | inr (inl h) ↦ not_held key ty n a.look a.is x h
+    | inr (inr h) ↦ no_place (name_of t f.look) (f.full few).1 h
+  ]
+
+  hold_call : (key : KeyId) (ty : Option TypeSite) (n : ℕ) (site : Option BodySite) (kinds : List Ty) (v : Verdict) → HoldsNext t names c q key log → TakesAt t log mine.0 kinds → FitsAct limit c (spot key.0 log) (Hold q key ty n) → IsDecided t names log (c, q.0) mine.0 site kinds v → ⊥
+  hold_call key ty n site kinds v a taken x d = not_held key ty n a.look a.is x (decided_holds a.look site kinds v (near a.look a.next) taken d)
+
+  free_call : (key : KeyId) (site : Option BodySite) (kinds : List Ty) (v : Verdict) → length names ≤ NAMES_MAX → IsFullRightly t names c q key log → TakesAt t log mine.0 kinds → IsDecided t names log (c, q.0) mine.0 site kinds v → ⊥
+  free_call key site kinds v few f taken d = no_place (name_of t f.look) (f.full few).1 (decided_holds f.look site kinds v (near f.look f.next) taken d)
+
+  free_free : (key other : KeyId) → IsFullRightly t names c q key log → IsFullRightly t names c q other log → Free q key ≡ Free q other
+  free_free key other f g =
+      let first : f.next.key ≡ mine = (one_began c q f.next.key mine f.next.start start log f.next.began began).0 in
+      let second : g.next.key ≡ mine = (one_began c q g.next.key mine g.next.start start log g.next.began began).0 in
+      ap (λ k. Free q k) (sym f.own ∙ first ∙ sym second ∙ g.own)
+
+  call_call : (site site' : Option BodySite) (args : ArgKinds) (v w : Verdict) → IsDecided t names log (c, q.0) mine.0 site (kinds_of args) v → IsDecided t names log (c, q.0) mine.0 site' (kinds_of args) w → IsRightWay c [] mine.0 log v → IsRightWay c [] mine.0 log w
+      → Call q mine site args v ≡ Call q mine site' args w
+  call_call site site' args v w a b x y =
+      let sites : site ≡ site' = a.defined ∙ sym b.defined in
+      let name : a.name ≡ b.name = place-apart names a.name b.name mine.0 a.is b.is in
+      let rules : as_fresh v ≡ as_fresh w =
+      a.rules ∙ ap (λ (n : Name). verdict_in t names log n mine.0 site (kinds_of args)) name ∙ ap (λ (o : Option BodySite). verdict_in t names log b.name mine.0 o (kinds_of args)) sites ∙ sym b.rules in
+      ap (λ (o : Option BodySite). Call q mine o args v) sites ∙ ap (λ (u : Verdict). Call q mine site' args u) (same_verdict c mine.0 log v w rules x y)
+
+opened : (c : ℕ) (q : CallNo) (k : ℕ) (log : List Entry) (o : IsOpen c q.0 k log) → Began c q (record { 0 = k }) o.start log
+opened c q k log o =
+    let call : o.call ≡ q = (let e = o.number in λ i. record { 0 = e i }) in
+    let key : o.key ≡ record { 0 = k } = (let e = o.key_is in λ i. record { 0 = e i }) in
+    subst (λ (p : CallNo). Began c p (record { 0 = k }) o.start log) call (subst (λ (j : KeyId). Began c o.call j o.start log) key o.began)
+
+goes_one : (t : Table) (limit : ℕ) (names : List Name) (c : ℕ) (log : List Entry) (q k : ℕ) (kinds : List Ty) (a b : Act) → Answers (Goes q k kinds) a → Answers (Goes q k kinds) b → IsOpen c q k log → length names ≤ NAMES_MAX
+    → FitsAct limit c (spot (key_of a) log) a → FitsAct limit c (spot (key_of b) log) b → FitsRules t names c log a → FitsRules t names c log b → EntersBy c [] log a → EntersBy c [] log b → FitsArguments t log (Goes q k kinds) a → FitsArguments t log (Goes q k kinds) b → a ≡ b
+goes_one t limit names c log _ _ _ _ _ (Looked k kinds q key ty n) (Looked _ _ _ other ty' n') o few f g r s va vb x y =
+    let mine : KeyId = record { 0 = k } in let b = opened c q k log o in
+    hold_hold t limit names c log q mine o.start b o.same key other ty ty' n n' (looks_next t limit names c log q mine o.start b o.same key ty n r.hold) (looks_next t limit names c log q mine o.start b o.same other ty' n' s.hold) f g
+goes_one t limit names c log _ _ _ _ _ (Looked k kinds q key ty n) (GaveBack _ _ _ other) o few f g r s va vb x y =
+    let mine : KeyId = record { 0 = k } in let b = opened c q k log o in
+    absurd (hold_free t limit names c log q mine o.start b o.same key other ty n few (looks_next t limit names c log q mine o.start b o.same key ty n r.hold) (full_next t limit names c log q mine o.start b o.same other o.undecided (o.goes_on q refl) s.free) f)
+goes_one t limit names c log _ _ _ _ _ (Looked k kinds q key ty n) (Decided _ args _ mine site v e) o few f g r s va vb x y =
+    let b = opened c q mine.0 log o in
+    absurd (hold_call t limit names c log q mine o.start b o.same key ty n site kinds v (looks_next t limit names c log q mine o.start b o.same key ty n r.hold) x f (subst (λ (ks : List Ty). IsDecided t names log (c, q.0) mine.0 site ks v) e s.row.0))
+goes_one t limit names c log _ _ _ _ _ (GaveBack k kinds q key) (Looked _ _ _ other ty n) o few f g r s va vb x y =
+    let mine : KeyId = record { 0 = k } in let b = opened c q k log o in
+    absurd (hold_free t limit names c log q mine o.start b o.same other key ty n few (looks_next t limit names c log q mine o.start b o.same other ty n s.hold) (full_next t limit names c log q mine o.start b o.same key o.undecided (o.goes_on q refl) r.free) g)
+goes_one t limit names c log _ _ _ _ _ (GaveBack k kinds q key) (GaveBack _ _ _ other) o few f g r s va vb x y =
+    let mine : KeyId = record { 0 = k } in let b = opened c q k log o in
+    free_free t limit names c log q mine o.start b o.same key other (full_next t limit names c log q mine o.start b o.same key o.undecided (o.goes_on q refl) r.free) (full_next t limit names c log q mine o.start b o.same other o.undecided (o.goes_on q refl) s.free)
+goes_one t limit names c log _ _ _ _ _ (GaveBack k kinds q key) (Decided _ args _ mine site v e) o few f g r s va vb x y =
+    let b = opened c q mine.0 log o in
+    absurd (free_call t limit names c log q mine o.start b o.same key site kinds v few (full_next t limit names c log q mine o.start b o.same key o.undecided (o.goes_on q refl) r.free) x (subst (λ (ks : List Ty). IsDecided t names log (c, q.0) mine.0 site ks v) e s.row.0))
+goes_one t limit names c log _ _ _ _ _ (Decided kinds args q mine site v e) (Looked _ _ _ key ty n) o few f g r s va vb x y =
+    let b = opened c q mine.0 log o in
+    absurd (hold_call t limit names c log q mine o.start b o.same key ty n site kinds v (looks_next t limit names c log q mine o.start b o.same key ty n s.hold) y g (subst (λ (ks : List Ty). IsDecided t names log (c, q.0) mine.0 site ks v) e r.row.0))
+goes_one t limit names c log _ _ _ _ _ (Decided kinds args q mine site v e) (GaveBack _ _ _ key) o few f g r s va vb x y =
+    let b = opened c q mine.0 log o in
+    absurd (free_call t limit names c log q mine o.start b o.same key site kinds v few (full_next t limit names c log q mine o.start b o.same key o.undecided (o.goes_on q refl) s.free) y (subst (λ (ks : List Ty). IsDecided t names log (c, q.0) mine.0 site ks v) e r.row.0))
+goes_one t limit names c log _ _ _ _ _ (Decided kinds args q mine site v e) (Decided _ other _ _ site' w e') o few f g r s va vb x y =
+    let args_are : args ≡ other = r.row.1 ∙ ap fill (e ∙ sym e') ∙ sym s.row.1 in
+    ap (λ (a : ArgKinds). Call q mine site a v) args_are
+    ∙ call_call t limit names c log q mine o.start (opened c q mine.0 log o) o.same site site' other v w (subst (λ (a : ArgKinds). IsDecided t names log (c, q.0) mine.0 site (kinds_of a) v) args_are r.row.0) s.row.0 va vb
+
+pub one_answer : (t : Table) (limit : ℕ) (names : List Name) (c : ℕ) (log : List Entry) → IsLegal limit log → (u : Question) (a b : Act) → IsAsked c log u → IsAnswer t limit names c log u a → IsAnswer t limit names c log u b → FitsArguments t log u a → FitsArguments t log u b → a ≡ b
+one_answer t limit names c log legal (Defines k s) a b asked x y fa fb = define_one limit c log k s a b x.answers y.answers x.fits y.fits
+one_answer t limit names c log legal (Declares k s) a b asked x y fa fb = declare_one limit c log k s a b x.answers y.answers x.fits y.fits
+one_answer t limit names c log legal (Starts q k) a b asked x y fa fb = start_one limit c log q k a b x.answers y.answers x.fits y.fits
+one_answer t limit names c log legal (Goes q k kinds) a b asked x y fa fb = goes_one t limit names c log q k kinds a b x.answers y.answers asked x.few x.fits y.fits x.rules y.rules x.way y.way fa fb
+one_answer t limit names c log legal (Ends q k) a b asked x y fa fb = end_one q k a b x.answers y.answers

@@ -1,0 +1,13 @@
+mod FitsLemmas
+mod AnswerLemmas
+mod LaterLemmas
+mod PartLemmas
+mod AlongLemmas
+mod OpenLemmas
+mod NextLemmas
+mod SameTurnLemmas
+mod TakenLemmas
+mod WalkLemmas
+mod RealLemmas
+mod FirstLemmas
+mod OneLemmas

@@ -1,0 +1,110 @@
+-- Where two runs of one block part.
+use Rattle.std.specs.Prelude.{◌≡◌, ℕ, ◌<◌, ◌==◌, Bool, true, false, List, [], ◌∷◌, ◌++◌, map, nat_eq}
+use Rattle.std.specs.List.{AllByRecursion}
+use mathlib.Core.List.{IsPrefix}
+use Rattle.hb_types.specs.declared.types.Ty.{Ty}
+use Rattle.hb_tree.specs.Table.{Table}
+use Rattle.hb_tables.specs.declared.entry.Act.{Act}
+use Rattle.hb_tables.specs.declared.entry.Act.TheVariants.{Hold, Free, Retype, Busy, WornType, Define, WornDef, Call}
+use Rattle.hb_call.specs.Reading.{takes_at}
+use Rattle.hb_eval.specs.Runs.{Run}
+use Rattle.hb_eval.specs.State.{St, tagged}
+use Rattle.hb_ordered.specs.Asking.{Question, Defines, Declares, Starts, Goes, Ends, Answers}
+
+-- the call q of a key has another hold, or gives back another key
+abbrev pub IsWithin : (q k : ℕ) → Act → Type 0
+IsWithin q k (Hold p key ty changes) = p.0 ≡ q
+IsWithin q k (Free p key) = (p.0 ≡ q) × (nat_eq key.0 k ≡ false)
+IsWithin q k (Retype key site) = ⊥
+IsWithin q k (Busy key pins) = ⊥
+IsWithin q k (WornType key) = ⊥
+IsWithin q k (Define key site) = ⊥
+IsWithin q k (WornDef key) = ⊥
+IsWithin q k (Call p key site args v) = ⊥
+
+-- these are the acts so far of the call q of a key: it holds the key, and what follows is within it
+abbrev pub IsSoFar : (q k : ℕ) → List Act → Type 0
+IsSoFar q k [] = ⊥
+IsSoFar q k (a ∷ l) = Answers (Starts q k) a × AllByRecursion (IsWithin q k) l
+
+-- the acts since the question's expression or call began, where the next call has this number
+abbrev pub IsReadFor : (next : ℕ) → Question → List Act → Type 0
+IsReadFor n (Defines k s) l = l ≡ []
+IsReadFor n (Declares k s) l = l ≡ []
+IsReadFor n (Starts q k) l = (q ≡ n) × (l ≡ [])
+IsReadFor n (Goes q k kinds) l = (q ≡ n) × IsSoFar q k l
+IsReadFor n (Ends q k) l = Unit {0}
+
+-- whether the type that the first of these Holds found takes arguments of these kinds
+abbrev pub first_takes : Table → List Ty → List Act → Bool
+first_takes t kinds (Hold p key ty changes ∷ l) = takes_at t ty kinds
+first_takes t kinds _ = false
+
+-- a Hold or a Free comes before a Call only where the arguments fit
+abbrev pub IsPast : (fits : Bool) → Act → Type 0
+IsPast fits (Hold p key ty changes) = fits ≡ true
+IsPast fits (Free p key) = fits ≡ true
+IsPast fits _ = Unit {0}
+
+-- behind these acts of its call the act goes past the first Hold rightly
+abbrev pub GoesPast : Table → Question → List Act → Act → Type 0
+GoesPast t (Goes q k kinds) since a = IsPast (first_takes t kinds since) a
+GoesPast t _ since a = Unit {0}
+
+-- the act is no part of a call from this number on
+abbrev pub IsBelow : (n : ℕ) → Act → Type 0
+IsBelow n (Hold p key ty changes) = p.0 < n
+IsBelow n (Free p key) = p.0 < n
+IsBelow n (Call p key site args v) = p.0 < n
+IsBelow n (Retype key site) = Unit {0}
+IsBelow n (Busy key pins) = Unit {0}
+IsBelow n (WornType key) = Unit {0}
+IsBelow n (Define key site) = Unit {0}
+IsBelow n (WornDef key) = Unit {0}
+
+-- Two lists of acts go on with these behind common ones. Both runs came to the same state, in which each call that was read has a lower number than the next, asked the same question there, and read answers to it that may differ.
+pub record Parting (t : Table) (done first second : List Act) : Type 0 where
+  pub state : St
+  pub since : List Act
+  pub read : map (λ e. e.1) state.read ++ since ≡ done
+  pub below : AllByRecursion (IsBelow state.next) (map (λ e. e.1) state.read)
+  pub question : Question
+  pub since_is : IsReadFor state.next question since
+  pub a : Act
+  pub b : Act
+  pub behind_a : List Act
+  pub behind_b : List Act
+  pub is_a : first ≡ a ∷ behind_a
+  pub is_b : second ≡ b ∷ behind_b
+  pub answer_a : Answers question a
+  pub answer_b : Answers question b
+  pub past_a : GoesPast t question since a
+  pub past_b : GoesPast t question since b
+
+-- the acts of a run up to the one by which it parts, each with the number of beginnings
+abbrev pub read_with : {t : Table} {done first second : List Act} → Parting t done first second → Act → List (ℕ × Act)
+read_with x e = x.state.read ++ tagged x.state.begun (x.since ++ e ∷ [])
+
+-- The runs part at a question, and each has its answer with the number of beginnings at which it was asked.
+abbrev pub Part : Table → (done first second : List Act) → (r w : Run) → Type 0
+Part t done first second r w = (x : Parting t done first second) × IsPrefix (read_with x x.a) r.acts × IsPrefix (read_with x x.b) w.acts
+
+-- the act is a part of the call q
+abbrev pub is_of : (q : ℕ) → Act → Bool
+is_of q (Hold p key ty changes) = q == p.0
+is_of q (Free p key) = q == p.0
+is_of q (Call p key site args v) = q == p.0
+is_of q (Retype key site) = false
+is_of q (Busy key pins) = false
+is_of q (WornType key) = false
+is_of q (Define key site) = false
+is_of q (WornDef key) = false
+
+-- no act is a part of the call q
+abbrev pub IsFresh : (q : ℕ) → List Act → Type 0
+IsFresh q l = AllByRecursion (λ a. is_of q a ≡ false) l
+
+-- the call that is asked about has no part in these acts
+abbrev pub IsFreshFor : Question → List Act → Type 0
+IsFreshFor (Goes q k kinds) l = IsFresh q l
+IsFreshFor _ l = Unit {0}
