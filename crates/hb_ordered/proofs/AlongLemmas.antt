@@ -13,7 +13,8 @@ use Rattle.hb_tree.specs.Table.{Table}
 use Rattle.hb_tree.specs.TreeAt.{tree_at}
 use Rattle.hb_tree.specs.Nodes.{params_of}
 use Rattle.hb_tree.specs.Canon.{bytes_at}
-use Rattle.hb_tree.specs.Tree.{Tree, TNil, TTrue, TFalse, TSelf, TInt, TText, TVar, TNew, TAssign, TPrint, TToStr, TNot, TBinary, TIf, TWhile, TCall, TDef, TDefComputed, TDeclare, TDeclareComputed, TBlock, Forest, NoTree, Trees}
+use Rattle.hb_tree.specs.Tree.{Tree, TNil, TTrue, TFalse, TSelf, TInt, TText, TVar, TNew, TAssign, TPrint, TToStr, TNot, TBinary, TIf, TWhile, TCall, TDef, TDefComputed}
+use Rattle.hb_tree.specs.Tree.{TDeclare, TDeclareComputed, TBlock, Forest, NoTree, Trees}
 use Rattle.hb_deriv.proofs.JudgementLemmas.{and_both}
 use Rattle.hb_names.specs.declared.names.TheConstants.{NAMES_MAX}
 use Rattle.hb_names.specs.Names.{Name, place}
@@ -43,7 +44,8 @@ use Rattle.hb_eval.proofs.EndLemmas.{before_rest}
 use Rattle.hb_eval.proofs.TurnLemmas.{tagged_append}
 use Rattle.hb_ordered.specs.Asking.{Question, Defines, Declares, Ends, Answers, Defined, Undefined, Retyped, Held, Worn}
 use Rattle.hb_ordered.specs.Parting.{GoesPast, IsBelow, IsReadFor, Part, Parting, read_with}
-use Rattle.hb_ordered.proofs.LaterLemmas.{Later, Keeps, KeepCalls, later_then, later_if, later_gives, later_printed, later_define, later_declare, later_named, later_decided, later_body, later_ev, later_items, later_args, later_calls, later_leave, later_turns}
+use Rattle.hb_ordered.proofs.LaterLemmas.{Later, Keeps, KeepCalls, later_then, later_if, later_gives, later_printed, later_define, later_declare, later_named, later_decided}
+use Rattle.hb_ordered.proofs.LaterLemmas.{later_body, later_ev, later_items, later_args, later_calls, later_leave, later_turns}
 use Rattle.hb_ordered.proofs.PartLemmas.{Behind, Leaves, TwoFrees, NoFirst, NoSecond, Alike, PartAt, two_frees, TwoReads, NoCallFirst, NoCallSecond, BothCalled, BothFull, PartIn, Asks, two_calls}
 
 -- ── what was read ──
@@ -128,13 +130,16 @@ module _ (t : Table) (done first second : List Act) where
   walk_self id (Some c) n s pre h = Both (value.Object c) s pre h
 
   walk_printed : (id : ℕ) (text : List ℕ) → Walks (printed id text)
-  walk_printed id text n s pre h = along_if n (nat_le (length (s.output ++ print_line text)) OUTPUT_MAX) _ _ _ _ (Both value.Nil (record s { output = s.output ++ print_line text }) pre h) (Halts stop.OutputFull id s pre h)
+  walk_printed id text n s pre h = along_if n (nat_le (length (s.output ++ print_line text)) OUTPUT_MAX) _ _ _ _ (Both value.Nil (record s { output = s.output ++ print_line text }) pre h)
+      (Halts stop.OutputFull id s pre h)
 
   walk_turns : (m : ℕ) (test body : St → Answer) → Walks test → Walks body → AllKeep test → AllKeep body → Walks (turns m test body)
   unfolding turns Keeps Later
   walk_turns zero test body w x k l n s pre h = FailsFirst Lost
   walk_turns (suc m) test body w x k l n s pre h = along_then n (test (at s (pre ++ first))) (test (at s (pre ++ second))) _ (w n s pre h)
-      (λ v n s pre h. along_if n (is_false v) _ _ _ _ (Both value.Nil s pre h) (along_then n (body (at s (pre ++ first))) (body (at s (pre ++ second))) _ (x n s pre h) (λ v n s pre h. walk_turns m test body w x k l n s pre h) (λ v rd s p. later_turns rd m test body (k rd) (l rd) s p)))
+      (λ v n s pre h. along_if n (is_false v) _ _ _ _ (Both value.Nil s pre h)
+      (along_then n (body (at s (pre ++ first))) (body (at s (pre ++ second))) _ (x n s pre h) (λ v n s pre h. walk_turns m test body w x k l n s pre h)
+      (λ v rd s p. later_turns rd m test body (k rd) (l rd) s p)))
       (λ v rd s p. later_if rd (is_false v) _ _ p (later_then rd (body s) _ (l rd s p) (λ w s p. later_turns rd m test body (k rd) (l rd) s p)))
 
   walk_loop : (test body : St → Answer) → Walks test → Walks body → AllKeep test → AllKeep body → Walks (loop test body)
@@ -142,7 +147,8 @@ module _ (t : Table) (done first second : List Act) where
   walk_loop test body w x k l n s pre h = walk_turns (suc s.fuel) test body w x k l n s pre h
 
   -- one act is read that answers the question
-  walk_reads : (m : Act → Option (Result Value Stop)) (u : Question) → ((a : Act) (r : Result Value Stop) → m a ≡ Some r → Answers u a) → ((n : ℕ) → IsReadFor n u []) → ((n : ℕ) (a : Act) → Answers u a → IsBelow n a) → ((a : Act) → GoesPast t u [] a) → (id : ℕ) → Walks (reads m id)
+  walk_reads : (m : Act → Option (Result Value Stop)) (u : Question) → ((a : Act) (r : Result Value Stop) → m a ≡ Some r → Answers u a) → ((n : ℕ) → IsReadFor n u [])
+      → ((n : ℕ) (a : Act) → Answers u a → IsBelow n a) → ((a : Act) → GoesPast t u [] a) → (id : ℕ) → Walks (reads m id)
   unfolding reads Keeps Later
   walk_reads m u answers none quiet past id n s [] h = go first second refl refl
     where
@@ -150,8 +156,26 @@ module _ (t : Table) (done first second : List Act) where
       one a b k l e f None p g i = FailsFirst (meant id p (read_act b l s))
       one a b k l e f (Some r) None g i = FailsSecond (meant id (Some r) (read_act a k s))
       one a b k l e f (Some r) (Some d) g i =
-          let x : Parting t done first second = record { state = s; since = []; read = h.0; below = h.2; question = u; since_is = none s.next; a = a; b = b; behind_a = k; behind_b = l; is_a = e; is_b = f; answer_a = answers a r g; answer_b = answers b d i; past_a = past a; past_b = past b } in
-          Apart x (gives id r (read_act a k s)) (gives id d (read_act b l s)) (later_gives (read_with x a) id r (read_act a k s) ([], append-nil (s.read ++ (s.begun, a) ∷ []))) (later_gives (read_with x b) id d (read_act b l s) ([], append-nil (s.read ++ (s.begun, b) ∷ [])))
+          let x : Parting t done first second = record {
+            state = s;
+            since = [];
+            read = h.0;
+            below = h.2;
+            question = u;
+            since_is = none s.next;
+            a = a;
+            b = b;
+            behind_a = k;
+            behind_b = l;
+            is_a = e;
+            is_b = f;
+            answer_a = answers a r g;
+            answer_b = answers b d i;
+            past_a = past a;
+            past_b = past b;
+          } in
+          Apart x (gives id r (read_act a k s)) (gives id d (read_act b l s)) (later_gives (read_with x a) id r (read_act a k s) ([], append-nil (s.read ++ (s.begun, a) ∷ [])))
+          (later_gives (read_with x b) id d (read_act b l s) ([], append-nil (s.read ++ (s.begun, b) ∷ [])))
 
       go : (k l : List Act) → first ≡ k → second ≡ l → Along n (next_act m id (at s first) k) (next_act m id (at s second) l)
       go [] l e f = FailsFirst (next_act m id (at s second) l)
@@ -161,9 +185,11 @@ module _ (t : Table) (done first second : List Act) where
     where
       go : (o : Option (Result Value Stop)) → m c ≡ o → Along n (meant id o (read_act c (pre ++ first) (at s ((c ∷ pre) ++ first)))) (meant id o (read_act c (pre ++ second) (at s ((c ∷ pre) ++ second))))
       go None e = FailsFirst Lost
-      go (Some r) e = walk_gives id r n (record s { read = s.read ++ (s.begun, c) ∷ [] }) pre
-          (ap (λ l. l ++ pre) (map-append (λ (e : ℕ × Act). e.1) s.read ((s.begun, c) ∷ [])) ∙ append_assoc (map (λ e. e.1) s.read) (c ∷ []) pre ∙ h.0, h.1,
-           subst (AllByRecursion (IsBelow s.next)) (sym (map-append (λ (e : ℕ × Act). e.1) s.read ((s.begun, c) ∷ []))) (all_both (IsBelow s.next) (map (λ e. e.1) s.read) (c ∷ []) h.2 (quiet s.next c (answers c r e), tt)))
+      go (Some r) e = walk_gives id r n (record s { read = s.read ++ (s.begun, c) ∷ [] }) pre (
+        ap (λ l. l ++ pre) (map-append (λ (e : ℕ × Act). e.1) s.read ((s.begun, c) ∷ [])) ∙ append_assoc (map (λ e. e.1) s.read) (c ∷ []) pre ∙ h.0,
+        h.1,
+        subst (AllByRecursion (IsBelow s.next)) (sym (map-append (λ (e : ℕ × Act). e.1) s.read ((s.begun, c) ∷ []))) (all_both (IsBelow s.next) (map (λ e. e.1) s.read) (c ∷ []) h.2 (quiet s.next c (answers c r e), tt)),
+      )
 
   walk_key : (names : List Name) (id : ℕ) (o : Option ℕ) (go : ℕ → St → Answer) → ((key : ℕ) → Walks (go key)) → Walks (λ s. with_key names id o s (λ key. go key s))
   walk_key names id None go w n s pre h = along_if n (nat_eq (length names) NAMES_MAX) _ _ _ _ (Halts stop.Full id s pre h) (FailsFirst Lost)
@@ -219,10 +245,12 @@ module _ (t : Table) (done first second : List Act) where
   declare_quiet _ _ n _ (Worn s key) = tt
 
   walk_define : (names : List Name) (id : ℕ) (name : Name) (site : ℕ) → Walks (define names id name site)
-  walk_define names id name site n s pre h = walk_key names id (place names name) (λ key. reads (define_meaning key site) id) (λ key. walk_reads (define_meaning key site) (Defines key site) (define_answers key site) (λ n. refl) (define_quiet key site) (λ a. tt) id) n s pre h
+  walk_define names id name site n s pre h = walk_key names id (place names name) (λ key. reads (define_meaning key site) id)
+      (λ key. walk_reads (define_meaning key site) (Defines key site) (define_answers key site) (λ n. refl) (define_quiet key site) (λ a. tt) id) n s pre h
 
   walk_declare : (names : List Name) (id : ℕ) (asks : Bool) (name : Name) (site : ℕ) → Walks (declare names id asks name site)
-  walk_declare names id asks name site n s pre h = walk_key names id (place names name) (λ key. reads (declare_meaning asks key site) id) (λ key. walk_reads (declare_meaning asks key site) (Declares key site) (declare_answers asks key site) (λ n. refl) (declare_quiet key site) (λ a. tt) id) n s pre h
+  walk_declare names id asks name site n s pre h = walk_key names id (place names name) (λ key. reads (declare_meaning asks key site) id)
+      (λ key. walk_reads (declare_meaning asks key site) (Declares key site) (declare_answers asks key site) (λ n. refl) (declare_quiet key site) (λ a. tt) id) n s pre h
 
   walk_named : (id : ℕ) (v : Value) (go : List ℕ → St → Answer) → ((bytes : List ℕ) → Walks (go bytes)) → Walks (λ s. named id v s (λ bytes. go bytes s))
   walk_named id value.Nil go w n s pre h = Halts stop.NilValue id s pre h
@@ -251,17 +279,23 @@ module _ (t : Table) (done first second : List Act) where
       walk_ev (TText id x) n s pre h = walk_begin id _ (λ n s pre h. Both (value.Str (bytes_at t.texts x)) s pre h) n s pre h
       walk_ev (TVar id x) n s pre h = walk_begin id _ (λ n s pre h. walk_variable id (value_at s.vars x) n s pre h) n s pre h
       walk_ev (TNew id c) n s pre h = walk_begin id _ (λ n s pre h. Both (object c) s pre h) n s pre h
-      walk_ev (TAssign id x e) n s pre h = walk_begin id _ (λ n s pre h. along_then n (ev t names call e (at s (pre ++ first))) (ev t names call e (at s (pre ++ second))) _ (walk_ev e n s pre h) (λ v n s pre h. Both v (record s { vars = bind s.vars x v }) pre h) (λ v rd s p. p)) n s pre h
-      walk_ev (TPrint id e) n s pre h = walk_begin id _ (λ n s pre h. along_then n (ev t names call e (at s (pre ++ first))) (ev t names call e (at s (pre ++ second))) _ (walk_ev e n s pre h) (λ v n s pre h. walk_printed id (shown t v) n s pre h) (λ v rd s p. later_printed rd id (shown t v) s p)) n s pre h
-      walk_ev (TToStr id e) n s pre h = walk_begin id _ (λ n s pre h. along_then n (ev t names call e (at s (pre ++ first))) (ev t names call e (at s (pre ++ second))) _ (walk_ev e n s pre h) (λ v n s pre h. Both (value.Str (shown t v)) s pre h) (λ v rd s p. p)) n s pre h
-      walk_ev (TNot id e) n s pre h = walk_begin id _ (λ n s pre h. along_then n (ev t names call e (at s (pre ++ first))) (ev t names call e (at s (pre ++ second))) _ (walk_ev e n s pre h) (λ v n s pre h. Both (value.Bool (is_false v)) s pre h) (λ v rd s p. p)) n s pre h
+      walk_ev (TAssign id x e) n s pre h = walk_begin id _ (λ n s pre h. along_then n (ev t names call e (at s (pre ++ first))) (ev t names call e (at s (pre ++ second))) _ (walk_ev e n s pre h)
+          (λ v n s pre h. Both v (record s { vars = bind s.vars x v }) pre h) (λ v rd s p. p)) n s pre h
+      walk_ev (TPrint id e) n s pre h = walk_begin id _ (λ n s pre h. along_then n (ev t names call e (at s (pre ++ first))) (ev t names call e (at s (pre ++ second))) _ (walk_ev e n s pre h)
+          (λ v n s pre h. walk_printed id (shown t v) n s pre h) (λ v rd s p. later_printed rd id (shown t v) s p)) n s pre h
+      walk_ev (TToStr id e) n s pre h = walk_begin id _ (λ n s pre h. along_then n (ev t names call e (at s (pre ++ first))) (ev t names call e (at s (pre ++ second))) _ (walk_ev e n s pre h)
+          (λ v n s pre h. Both (value.Str (shown t v)) s pre h) (λ v rd s p. p)) n s pre h
+      walk_ev (TNot id e) n s pre h = walk_begin id _ (λ n s pre h. along_then n (ev t names call e (at s (pre ++ first))) (ev t names call e (at s (pre ++ second))) _ (walk_ev e n s pre h)
+          (λ v n s pre h. Both (value.Bool (is_false v)) s pre h) (λ v rd s p. p)) n s pre h
       walk_ev (TBinary id o a b) n s pre h = walk_begin id _ (λ n s pre h. along_then n (ev t names call a (at s (pre ++ first))) (ev t names call a (at s (pre ++ second))) _ (walk_ev a n s pre h)
-          (λ v n s pre h. along_then n (ev t names call b (at s (pre ++ first))) (ev t names call b (at s (pre ++ second))) _ (walk_ev b n s pre h) (λ w n s pre h. walk_gives id (operate o v w) n s pre h) (λ w rd s p. later_gives rd id (operate o v w) s p))
+          (λ v n s pre h. along_then n (ev t names call b (at s (pre ++ first))) (ev t names call b (at s (pre ++ second))) _ (walk_ev b n s pre h)
+          (λ w n s pre h. walk_gives id (operate o v w) n s pre h) (λ w rd s p. later_gives rd id (operate o v w) s p))
           (λ v rd s p. later_then rd (ev t names call b s) _ (keeps_ev b rd s p) (λ w s p. later_gives rd id (operate o v w) s p))) n s pre h
       walk_ev (TIf id c a b) n s pre h = walk_begin id _ (λ n s pre h. along_then n (ev t names call c (at s (pre ++ first))) (ev t names call c (at s (pre ++ second))) _ (walk_ev c n s pre h)
           (λ v n s pre h. along_if n (is_false v) _ _ _ _ (walk_ev b n s pre h) (walk_ev a n s pre h))
           (λ v rd s p. later_if rd (is_false v) _ _ (keeps_ev b rd s p) (keeps_ev a rd s p))) n s pre h
-      walk_ev (TWhile id c b) n s pre h = walk_begin id _ (λ n s pre h. walk_loop (ev t names call c) (ev t names call b) (λ n s pre h. walk_ev c n s pre h) (λ n s pre h. walk_ev b n s pre h) (keeps_ev c) (keeps_ev b) n s pre h) n s pre h
+      walk_ev (TWhile id c b) n s pre h = walk_begin id _ (λ n s pre h. walk_loop (ev t names call c) (ev t names call b) (λ n s pre h. walk_ev c n s pre h) (λ n s pre h. walk_ev b n s pre h)
+          (keeps_ev c) (keeps_ev b) n s pre h) n s pre h
       walk_ev (TCall id r m args) n s pre h = walk_begin id _ (λ n s pre h. along_then n (ev t names call r (at s (pre ++ first))) (ev t names call r (at s (pre ++ second))) _ (walk_ev r n s pre h)
           (λ v n s pre h. walk_args args [] (λ vs s. call id v m vs s) (λ vs n s pre h. ok id v m vs n s pre h) (λ vs rd s p. keep rd id v m vs s p) n s pre h)
           (λ v rd s p. later_args rd t names call (keep rd) args [] (λ vs s. call id v m vs s) (λ vs s p. keep rd id v m vs s p) s p)) n s pre h
@@ -277,11 +311,13 @@ module _ (t : Table) (done first second : List Act) where
 
       walk_items : (es : Forest) (v : Value) → Walks (ev_items t names call es v)
       walk_items NoTree v n s pre h = Both v s pre h
-      walk_items (Trees e es) v n s pre h = along_then n (ev t names call e (at s (pre ++ first))) (ev t names call e (at s (pre ++ second))) _ (walk_ev e n s pre h) (λ w n s pre h. walk_items es w n s pre h) (λ w rd s p. later_items rd t names call (keep rd) es w s p)
+      walk_items (Trees e es) v n s pre h = along_then n (ev t names call e (at s (pre ++ first))) (ev t names call e (at s (pre ++ second))) _ (walk_ev e n s pre h)
+          (λ w n s pre h. walk_items es w n s pre h) (λ w rd s p. later_items rd t names call (keep rd) es w s p)
 
       walk_args : (es : Forest) (vs : List Value) (go : List Value → St → Answer) → ((us : List Value) → Walks (go us)) → ((us : List Value) → AllKeep (go us)) → Walks (ev_arguments t names call es vs go)
       walk_args NoTree vs go w k n s pre h = w vs n s pre h
-      walk_args (Trees e es) vs go w k n s pre h = along_then n (ev t names call e (at s (pre ++ first))) (ev t names call e (at s (pre ++ second))) _ (walk_ev e n s pre h) (λ v n s pre h. walk_args es (vs ++ v ∷ []) go w k n s pre h)
+      walk_args (Trees e es) vs go w k n s pre h = along_then n (ev t names call e (at s (pre ++ first))) (ev t names call e (at s (pre ++ second))) _ (walk_ev e n s pre h)
+          (λ v n s pre h. walk_args es (vs ++ v ∷ []) go w k n s pre h)
           (λ v rd s p. later_args rd t names call (keep rd) es (vs ++ v ∷ []) go (λ us. k us rd) s p)
 
   -- ── calls ──
@@ -291,14 +327,18 @@ module _ (t : Table) (done first second : List Act) where
   read_alike used left pre tail e = ap (acts_before (left ++ tail)) (ap (λ l. l ++ tail) e ∙ append_assoc used left tail) ∙ before_rest used (left ++ tail)
 
   -- behind these acts the next call has this number
-  together_more : (n m next : ℕ) (s : St) (used left pre : List Act) → pre ≡ used ++ left → s.next ≤ next → m ≤ next → AllByRecursion (IsBelow next) used → Together n s pre → Together m (record s { read = s.read ++ tagged s.begun used; next = next }) left
+  together_more : (n m next : ℕ) (s : St) (used left pre : List Act) → pre ≡ used ++ left → s.next ≤ next → m ≤ next → AllByRecursion (IsBelow next) used → Together n s pre
+      → Together m (record s { read = s.read ++ tagged s.begun used; next = next }) left
   together_more n m next s used left pre e up low below h =
-      let acts_are = map-append (λ (e : ℕ × Act). e.1) s.read (tagged s.begun used) ∙ ap (λ l. map (λ (e : ℕ × Act). e.1) s.read ++ l) (untagged s.begun used) in
-      (ap (λ l. l ++ left) acts_are ∙ append_assoc (map (λ (e : ℕ × Act). e.1) s.read) used left ∙ ap (λ l. map (λ (e : ℕ × Act). e.1) s.read ++ l) (sym e) ∙ h.0, low,
-       subst (AllByRecursion (IsBelow next)) (sym acts_are) (all_both (IsBelow next) (map (λ e. e.1) s.read) used (below_more s.next next (map (λ e. e.1) s.read) up h.2) below))
+      let acts_are = map-append (λ (e : ℕ × Act). e.1) s.read (tagged s.begun used) ∙ ap (λ l. map (λ (e : ℕ × Act). e.1) s.read ++ l) (untagged s.begun used) in (
+        ap (λ l. l ++ left) acts_are ∙ append_assoc (map (λ (e : ℕ × Act). e.1) s.read) used left ∙ ap (λ l. map (λ (e : ℕ × Act). e.1) s.read ++ l) (sym e) ∙ h.0,
+        low,
+        subst (AllByRecursion (IsBelow next)) (sym acts_are) (all_both (IsBelow next) (map (λ e. e.1) s.read) used (below_more s.next next (map (λ e. e.1) s.read) up h.2) below),
+      )
 
   -- from the state with these acts read, what goes on goes along
-  walk_from : (n m : ℕ) (go : St → Answer) (s : St) (pre used left : List Act) → pre ≡ used ++ left → (Along n (go (record s { read = s.read ++ tagged s.begun used; journal = left ++ first })) (go (record s { read = s.read ++ tagged s.begun used; journal = left ++ second })))
+  walk_from : (n m : ℕ) (go : St → Answer) (s : St) (pre used left : List Act) → pre ≡ used ++ left
+      → (Along n (go (record s { read = s.read ++ tagged s.begun used; journal = left ++ first })) (go (record s { read = s.read ++ tagged s.begun used; journal = left ++ second })))
       → Along n (go (read_to (left ++ first) (at s (pre ++ first)))) (go (read_to (left ++ second) (at s (pre ++ second))))
   walk_from n m go s pre used left e both =
       let u : St = record s { read = s.read ++ tagged s.begun used } in
@@ -307,15 +347,34 @@ module _ (t : Table) (done first second : List Act) where
       subst (λ (l : List Act). Along n (go (record s { read = s.read ++ tagged s.begun l; journal = left ++ first })) (go (read_to (left ++ second) (at s (pre ++ second))))) (sym one)
       (subst (λ (l : List Act). Along n (go (at u (left ++ first))) (go (record s { read = s.read ++ tagged s.begun l; journal = left ++ second }))) (sym two) both)
 
-  walk_frees : (n m q : ℕ) (s : St) (pre : List Act) → n ≤ m → q < m → Together m s pre → (x y : Option (List Act)) → TwoFrees t first second q pre x y → (go : St → Answer) → Walks go → AllKeep go → Along n (read_frees x (at s (pre ++ first)) go) (read_frees y (at s (pre ++ second)) go)
+  walk_frees : (n m q : ℕ) (s : St) (pre : List Act) → n ≤ m → q < m → Together m s pre → (x y : Option (List Act)) → TwoFrees t first second q pre x y → (go : St → Answer) → Walks go
+      → AllKeep go → Along n (read_frees x (at s (pre ++ first)) go) (read_frees y (at s (pre ++ second)) go)
   unfolding Keeps Behind Later
   walk_frees n m q s pre le lt h _ _ (NoFirst o) go w k = FailsFirst (read_frees o (at s (pre ++ second)) go)
   walk_frees n m q s pre le lt h _ _ (NoSecond o) go w k = FailsSecond (read_frees o (at s (pre ++ first)) go)
   walk_frees n m q s pre le lt h _ _ (Alike used left b e) go w k =
       let up = h.1 in
-      walk_from n m go s pre used left e (w n (record s { read = s.read ++ tagged s.begun used }) left (together_more m n s.next s used left pre e (omega arith) (omega (arith, le, up)) (below_more (suc q) s.next used (omega (arith, lt, up)) b) h))
+      walk_from n m go s pre used left e (w n (record s { read = s.read ++ tagged s.begun used }) left
+      (together_more m n s.next s used left pre e (omega arith) (omega (arith, le, up)) (below_more (suc q) s.next used (omega (arith, lt, up)) b) h))
   walk_frees n m q s pre le lt h _ _ (PartAt j a b k l x y e f g i u v) go w keep =
-      let p : Parting t done first second = record { state = s; since = pre; read = h.0; below = h.2; question = Ends q j; since_is = tt; a = a; b = b; behind_a = k; behind_b = l; is_a = e; is_b = f; answer_a = g; answer_b = i; past_a = tt; past_b = tt } in
+      let p : Parting t done first second = record {
+        state = s;
+        since = pre;
+        read = h.0;
+        below = h.2;
+        question = Ends q j;
+        since_is = tt;
+        a = a;
+        b = b;
+        behind_a = k;
+        behind_b = l;
+        is_a = e;
+        is_b = f;
+        answer_a = g;
+        answer_b = i;
+        past_a = tt;
+        past_b = tt;
+      } in
       Apart p (read_frees x (at s (pre ++ first)) go) (read_frees y (at s (pre ++ second)) go) (one first k a e x u) (one second l b f y v)
     where
       one : (l m : List Act) (a : Act) → l ≡ a ∷ m → (o : Option (List Act)) → Behind m o → Later (s.read ++ tagged s.begun (pre ++ a ∷ [])) (read_frees o (at s (pre ++ l)) go)
@@ -326,16 +385,22 @@ module _ (t : Table) (done first second : List Act) where
   unfolding Keeps Later
   along_leave n m q held vars self _ _ le lt (FailsFirst b) = FailsFirst (leave q held vars self b)
   along_leave n m q held vars self _ _ le lt (FailsSecond a) = FailsSecond (leave q held vars self a)
-  along_leave n m q held vars self _ _ le lt (Apart x a b l k) = Apart x (leave q held vars self a) (leave q held vars self b) (later_leave (read_with x x.a) q held vars self a l) (later_leave (read_with x x.b) q held vars self b k)
-  along_leave n m q held vars self _ _ le lt (Both v s pre h) = walk_frees n m q s pre le lt h _ _ (two_frees t first second q held pre) (λ s. Done v (record s { vars = vars; self = self })) (λ n s pre h. Both v (record s { vars = vars; self = self }) pre h) (λ rd s p. p)
-  along_leave n m q held vars self _ _ le lt (Halts e id s pre h) = walk_frees n m q s pre le lt h _ _ (two_frees t first second q held pre) (λ s. Halt e id (record s { vars = vars; self = self })) (λ n s pre h. Halts e id (record s { vars = vars; self = self }) pre h) (λ rd s p. p)
+  along_leave n m q held vars self _ _ le lt (Apart x a b l k) = Apart x (leave q held vars self a) (leave q held vars self b) (later_leave (read_with x x.a) q held vars self a l)
+      (later_leave (read_with x x.b) q held vars self b k)
+  along_leave n m q held vars self _ _ le lt (Both v s pre h) = walk_frees n m q s pre le lt h _ _ (two_frees t first second q held pre) (λ s. Done v (record s { vars = vars; self = self }))
+      (λ n s pre h. Both v (record s { vars = vars; self = self }) pre h) (λ rd s p. p)
+  along_leave n m q held vars self _ _ le lt (Halts e id s pre h) = walk_frees n m q s pre le lt h _ _ (two_frees t first second q held pre)
+      (λ s. Halt e id (record s { vars = vars; self = self })) (λ n s pre h. Halts e id (record s { vars = vars; self = self }) pre h) (λ rd s p. p)
 
   -- the body of a call, whose number is below the next
-  walk_body : (run : ℕ → St → Answer) → ((block : ℕ) → Walks (run block)) → (q : ℕ) (c : ClassId) (args : List Value) (held : List Stand) (b : Option Body) (n : ℕ) (s : St) (pre : List Act) → q < s.next → Together n s pre → Along n (run_body run q c args held b (at s (pre ++ first))) (run_body run q c args held b (at s (pre ++ second)))
+  walk_body : (run : ℕ → St → Answer) → ((block : ℕ) → Walks (run block)) → (q : ℕ) (c : ClassId) (args : List Value) (held : List Stand) (b : Option Body) (n : ℕ) (s : St) (pre : List Act)
+      → q < s.next → Together n s pre → Along n (run_body run q c args held b (at s (pre ++ first))) (run_body run q c args held b (at s (pre ++ second)))
   walk_body run w q c args held None n s pre lt h = FailsFirst Lost
-  walk_body run w q c args held (Some b) n s pre lt h = along_leave n s.next q held s.vars s.self _ _ h.1 lt (w b.block.0 s.next (record s { vars = bindings (params_of b) args; self = Some c }) pre (h.0, omega arith, h.2))
+  walk_body run w q c args held (Some b) n s pre lt h = along_leave n s.next q held s.vars s.self _ _ h.1 lt
+      (w b.block.0 s.next (record s { vars = bindings (params_of b) args; self = Some c }) pre (h.0, omega arith, h.2))
 
-  walk_decided : (id : ℕ) (body : St → Answer) (v : Verdict) (n : ℕ) (s : St) (pre : List Act) → Along n (body (at s (pre ++ first))) (body (at s (pre ++ second))) → Together n s pre → Along n (decided id body v (at s (pre ++ first))) (decided id body v (at s (pre ++ second)))
+  walk_decided : (id : ℕ) (body : St → Answer) (v : Verdict) (n : ℕ) (s : St) (pre : List Act) → Along n (body (at s (pre ++ first))) (body (at s (pre ++ second))) → Together n s pre
+      → Along n (decided id body v (at s (pre ++ first))) (decided id body v (at s (pre ++ second)))
   walk_decided id body (verdict.Enter way) n s pre w h = w
   walk_decided id body verdict.NoBody n s pre w h = Halts stop.NoBody id s pre h
   walk_decided id body verdict.NoType n s pre w h = Halts stop.NoType id s pre h
@@ -349,9 +414,11 @@ module _ (t : Table) (done first second : List Act) where
     later_one s pre l m a e (FullAt rest) u = read_on s pre l m u.0 rest a e u.1
     later_one s pre l m a e (Called site v held rest) u =
         let rd = s.read ++ tagged s.begun (pre ++ a ∷ []) in
-        later_decided rd id (run_body run s.next c args held (body_at t site)) (λ x p. later_body rd run (λ b x p. k b rd x p) s.next c args held (body_at t site) x p) v (numbered (read_to rest (at s (pre ++ l)))) (read_on s pre l m u.0 rest a e u.1)
+        later_decided rd id (run_body run s.next c args held (body_at t site)) (λ x p. later_body rd run (λ b x p. k b rd x p) s.next c args held (body_at t site) x p) v
+        (numbered (read_to rest (at s (pre ++ l)))) (read_on s pre l m u.0 rest a e u.1)
 
-    walk_called : (n : ℕ) (s : St) (pre : List Act) → Together n s pre → (x y : Read) → TwoReads t first second s.next key kinds [] pre x y → Along n (called t run id c args x (at s (pre ++ first))) (called t run id c args y (at s (pre ++ second)))
+    walk_called : (n : ℕ) (s : St) (pre : List Act) → Together n s pre → (x y : Read) → TwoReads t first second s.next key kinds [] pre x y
+        → Along n (called t run id c args x (at s (pre ++ first))) (called t run id c args y (at s (pre ++ second)))
     unfolding Asks
     walk_called n s pre h _ _ (NoCallFirst r) = FailsFirst (called t run id c args r (at s (pre ++ second)))
     walk_called n s pre h _ _ (NoCallSecond r) = FailsSecond (called t run id c args r (at s (pre ++ first)))
@@ -365,9 +432,28 @@ module _ (t : Table) (done first second : List Act) where
     walk_called n s pre h _ _ (BothFull used left b e) =
         let up = h.1 in
         let below : AllByRecursion (IsBelow (s.next + 1)) used = below_more (suc s.next) (s.next + 1) used (omega arith) b in
-        walk_from n n (λ x. Halt stop.Full id (numbered x)) s pre used left e (Halts stop.Full id (record s { read = s.read ++ tagged s.begun used; next = s.next + 1 }) left (together_more n n (s.next + 1) s used left pre e (omega arith) (omega (arith, up)) below h))
+        walk_from n n (λ x. Halt stop.Full id (numbered x)) s pre used left e
+        (Halts stop.Full id (record s { read = s.read ++ tagged s.begun used; next = s.next + 1 }) left
+        (together_more n n (s.next + 1) s used left pre e (omega arith) (omega (arith, up)) below h))
     walk_called n s pre h _ _ (PartIn u a b k l x y asks e f g i j o pa pb) =
-        let p : Parting t done first second = record { state = s; since = pre; read = h.0; below = h.2; question = u; since_is = for u asks; a = a; b = b; behind_a = k; behind_b = l; is_a = e; is_b = f; answer_a = g; answer_b = i; past_a = pa; past_b = pb } in
+        let p : Parting t done first second = record {
+          state = s;
+          since = pre;
+          read = h.0;
+          below = h.2;
+          question = u;
+          since_is = for u asks;
+          a = a;
+          b = b;
+          behind_a = k;
+          behind_b = l;
+          is_a = e;
+          is_b = f;
+          answer_a = g;
+          answer_b = i;
+          past_a = pa;
+          past_b = pb;
+        } in
         Apart p (called t run id c args x (at s (pre ++ first))) (called t run id c args y (at s (pre ++ second))) (later_one s pre first k a e x j) (later_one s pre second l b f y o)
       where
         for : (u : Question) → Asks t first second s.next key kinds pre u → IsReadFor s.next u pre
@@ -382,8 +468,11 @@ module _ (t : Table) (done first second : List Act) where
   pub walk_calls : (names : List Name) (room : ℕ) → WalkCalls (call_in t names room)
   unfolding call_in Keeps
   walk_calls names zero id r m vs n s pre h = walk_received id (receiver r) (λ c s. Halt stop.Deep id s) (λ c n s pre h. Halts stop.Deep id s pre h) n s pre h
-  walk_calls names (suc room) id r m vs n s pre h = walk_received id (receiver r) (λ c s. keyed names id (c.0, bytes_at t.names m) s (λ key. called t (λ block s. ev t names (call_in t names room) (tree_at t block) s) id c vs (call_of t s.next key (map kind_of vs) s.journal) s)) (λ c n s pre h.
-      walk_key names id (place names (c.0, bytes_at t.names m)) (λ key s. called t (λ block s. ev t names (call_in t names room) (tree_at t block) s) id c vs (call_of t s.next key (map kind_of vs) s.journal) s) (λ key n s pre h.
+  walk_calls names (suc room) id r m vs n s pre h = walk_received id (receiver r)
+      (λ c s. keyed names id (c.0, bytes_at t.names m) s (λ key. called t (λ block s. ev t names (call_in t names room) (tree_at t block) s) id c vs
+      (call_of t s.next key (map kind_of vs) s.journal) s)) (λ c n s pre h.
+      walk_key names id (place names (c.0, bytes_at t.names m))
+      (λ key s. called t (λ block s. ev t names (call_in t names room) (tree_at t block) s) id c vs (call_of t s.next key (map kind_of vs) s.journal) s) (λ key n s pre h.
       walk_called (λ block s. ev t names (call_in t names room) (tree_at t block) s)
       (λ block n s pre h. walk_ev names (call_in t names room) (walk_calls names room) (λ rd. later_calls rd t names room) (tree_at t block) n s pre h)
       (λ block rd s p. later_ev rd t names (call_in t names room) (later_calls rd t names room) (tree_at t block) s p)
@@ -409,10 +498,19 @@ module _ (t : Table) (done first second : List Act) where
   along_ends n _ _ r w (FailsFirst b) e f = absurd (none-some r e)
   along_ends n _ _ r w (FailsSecond a) e f = absurd (none-some w f)
   along_ends n _ _ r w (Apart x a b l m) e f = inr (x, later_run (read_with x x.a) a r l e, later_run (read_with x x.b) b w m f)
-  along_ends n _ _ r w (Both v s pre h) e f = inl (none_of pre first (ended_empty (outcome.Done v) (at s (pre ++ first)) (pre ++ first) r e).0, none_of pre second (ended_empty (outcome.Done v) (at s (pre ++ second)) (pre ++ second) w f).0)
-  along_ends n _ _ r w (Halts x id s pre h) e f = inl (none_of pre first (ended_empty (outcome.Stopped x (record { 0 = id })) (at s (pre ++ first)) (pre ++ first) r e).0, none_of pre second (ended_empty (outcome.Stopped x (record { 0 = id })) (at s (pre ++ second)) (pre ++ second) w f).0)
+  along_ends n _ _ r w (Both v s pre h) e f = inl (
+    none_of pre first (ended_empty (outcome.Done v) (at s (pre ++ first)) (pre ++ first) r e).0,
+    none_of pre second
+        (ended_empty (outcome.Done v) (at s (pre ++ second)) (pre ++ second) w f).0,
+  )
+  along_ends n _ _ r w (Halts x id s pre h) e f = inl (
+    none_of pre first (ended_empty (outcome.Stopped x (record { 0 = id })) (at s (pre ++ first)) (pre ++ first) r e).0,
+    none_of pre second
+        (ended_empty (outcome.Stopped x (record { 0 = id })) (at s (pre ++ second)) (pre ++ second) w f).0,
+  )
 
-  pub runs_part : (names : List Name) (room block steps : ℕ) (r w : Run) → script_run t names (call_in t names room) block steps (done ++ first) ≡ Some r → script_run t names (call_in t names room) block steps (done ++ second) ≡ Some w
+  pub runs_part : (names : List Name) (room block steps : ℕ) (r w : Run) → script_run t names (call_in t names room) block steps (done ++ first) ≡ Some r
+      → script_run t names (call_in t names room) block steps (done ++ second) ≡ Some w
       → ((first ≡ []) × (second ≡ [])) ⊎ Part t done first second r w
   runs_part names room block steps r w e f =
       along_ends 0 _ _ r w (walk_ev names (call_in t names room) (walk_calls names room) (λ rd. later_calls rd t names room) (tree_at t block) 0 (start steps []) done (refl, omega arith, tt)) e f

@@ -1,5 +1,6 @@
 -- What is asked of the tables has one answer.
-use Rattle.std.proofs.Common.{◌≡◌, ◌⊎◌, inl, inr, ℕ, suc, ◌+◌, ◌≤◌, Bool, true, false, List, [], ◌∷◌, ◌++◌, length, length-append, map, Option, Some, None, refl, sym, ap, ◌∙◌, subst, arith, append_assoc, eq-eqb, cond, eqb}
+use Rattle.std.proofs.Common.{◌≡◌, ◌⊎◌, inl, inr, ℕ, suc, ◌+◌, ◌≤◌, Bool, true, false, List, [], ◌∷◌, ◌++◌, length, length-append, map, Option, Some, None, refl, sym, ap, ◌∙◌}
+use Rattle.std.proofs.Common.{subst, arith, append_assoc, eq-eqb, cond, eqb}
 use Rattle.std.specs.Prelude.{Contains}
 use Rattle.std.proofs.lemmas.List.{append_cancel_left, append-nil}
 use Rattle.std.proofs.lemmas.Option.{none-some, same_Some}
@@ -36,7 +37,8 @@ use Rattle.hb_tables.proofs.HistoryLemmas.{redefs_grow, redefs_same, spot_more, 
 use Rattle.hb_tables.proofs.StandingLemmas.{held_stands}
 use Rattle.hb_call.specs.Held.{HasCall}
 use Rattle.hb_call.specs.Rules.{Began, EntersBy, FitsFree, FitsHold, FitsRules, GivesUp, HoldsNext, IsFullRightly, IsNextLook, IsRightWay, IsWay, runs}
-use Rattle.hb_ordered.specs.Asking.{Question, Defines, Declares, Starts, Goes, Ends, Answers, Defined, Undefined, Retyped, Held, Worn, Started, Looked, GaveBack, Decided, Ended, IsAnswer, IsAsked, IsOpen, TakesAt, FitsArguments}
+use Rattle.hb_ordered.specs.Asking.{Question, Defines, Declares, Starts, Goes, Ends, Answers, Defined, Undefined, Retyped, Held, Worn, Started, Looked, GaveBack, Decided}
+use Rattle.hb_ordered.specs.Asking.{Ended, IsAnswer, IsAsked, IsOpen, TakesAt, FitsArguments}
 
 -- ── a `def`, a `type`, the first Hold of a call and its last Frees ──
 
@@ -58,7 +60,8 @@ declare_one limit c log _ _ _ _ (Worn s key) (Held _ _ pins) x y = absurd (omega
 declare_one limit c log _ _ _ _ (Worn s key) (Worn _ _) x y = refl
 
 -- a Hold finds what there is
-hold_one : (limit c : ℕ) (log : List Entry) (q : CallNo) (key other : KeyId) (ty ty' : Option TypeSite) (n n' : ℕ) → key ≡ other → FitsAct limit c (spot key.0 log) (Hold q key ty n) → FitsAct limit c (spot other.0 log) (Hold q other ty' n') → Hold q key ty n ≡ Hold q other ty' n'
+hold_one : (limit c : ℕ) (log : List Entry) (q : CallNo) (key other : KeyId) (ty ty' : Option TypeSite) (n n' : ℕ) → key ≡ other → FitsAct limit c (spot key.0 log) (Hold q key ty n)
+    → FitsAct limit c (spot other.0 log) (Hold q other ty' n') → Hold q key ty n ≡ Hold q other ty' n'
 hold_one limit c log q key other ty ty' n n' same x y =
     let at : spot key.0 log ≡ spot other.0 log = ap (λ (k : KeyId). spot k.0 log) same in
     ap (λ (k : KeyId). Hold q k ty n) same ∙ ap (λ (o : Option TypeSite). Hold q other o n) (x.0 ∙ ap (λ (s : Spot). s.ty) at ∙ sym y.0) ∙ ap (λ m. Hold q other ty' m) (x.1 ∙ ap (λ (s : Spot). s.changes) at ∙ sym y.1)
@@ -170,7 +173,8 @@ every_look t types class None m = []
 every_look t types class (Some b) None = []
 every_look t types class (Some b) (Some m) = looks types (subject t class b m)
 
-looks_defined : (t : Table) (types : Types) (class : ℕ) (b : Option Body) (m : Option MethodTy) (body : Body) (declared : MethodTy) → b ≡ Some body → m ≡ Some declared → every_look t types class b m ≡ looks types (subject t class body declared)
+looks_defined : (t : Table) (types : Types) (class : ℕ) (b : Option Body) (m : Option MethodTy) (body : Body) (declared : MethodTy) → b ≡ Some body → m ≡ Some declared
+    → every_look t types class b m ≡ looks types (subject t class body declared)
 unfolding every_look
 looks_defined t types class b m body declared e f = ap (λ (o : Option Body). every_look t types class o m) e ∙ ap (λ (o : Option MethodTy). every_look t types class (Some body) o) f
 
@@ -228,7 +232,8 @@ some_run q key going [] = let same = eq-eqb q.0 q.0 refl in rw same (go going)
     go false = omega arith
 some_run q key going (Hold p j ty n ∷ l) = go (eqb q.0 p.0) (some_run q key false l) (some_run q key going l)
   where
-    go : (b : Bool) → 1 ≤ runs q.0 false (l ++ Free q key ∷ []) + 0 → 1 ≤ runs q.0 going (l ++ Free q key ∷ []) + cond going 1 0 → 1 ≤ cond b (runs q.0 false (l ++ Free q key ∷ [])) (runs q.0 going (l ++ Free q key ∷ [])) + cond going 1 0
+    go : (b : Bool) → 1 ≤ runs q.0 false (l ++ Free q key ∷ []) + 0 → 1 ≤ runs q.0 going (l ++ Free q key ∷ []) + cond going 1 0
+        → 1 ≤ cond b (runs q.0 false (l ++ Free q key ∷ [])) (runs q.0 going (l ++ Free q key ∷ [])) + cond going 1 0
     go true r x = omega (arith, r)
     go false r x = x
 some_run q key going (Free p j ∷ l) = go (eqb q.0 p.0) going (some_run q key going l)
@@ -244,7 +249,8 @@ some_run q key going (Define j site ∷ l) = some_run q key going l
 some_run q key going (WornDef j ∷ l) = some_run q key going l
 some_run q key going (Call p j site args v ∷ l) = some_run q key going l
 
-module _ (t : Table) (limit : ℕ) (names : List Name) (c : ℕ) (log : List Entry) (q : CallNo) (mine : KeyId) (start : List Entry) (began : Began c q mine start log) (same : (spot mine.0 log).redefs ≡ (spot mine.0 start).redefs) where
+module _ (t : Table) (limit : ℕ) (names : List Name) (c : ℕ) (log : List Entry) (q : CallNo) (mine : KeyId) (start : List Entry) (began : Began c q mine start log)
+    (same : (spot mine.0 log).redefs ≡ (spot mine.0 start).redefs) where
   -- a look of the call, behind those before it, which it holds
   record Near (look : Key) : Type 0 where
     pub name : Name
@@ -298,7 +304,7 @@ module _ (t : Table) (limit : ℕ) (names : List Name) (c : ℕ) (log : List Ent
       ∙ ap (λ (m : Option MethodTy). every_look t T x.name.0 (body_at t (spot mine.0 log).body) m) (sym taken.1)
       ∙ x.looks in
       d.held (name_of t a) (later_in d.name (name_of t a) (map (name_of t) (looks_of t T d.name.0 (body_at t site) (type_of_key t log mine.0) kinds))
-          (subst (λ (l : List Key). Contains (map (name_of t) l) (name_of t a)) (sym all) (in_second (name_of t) a x.held x.others)))
+      (subst (λ (l : List Key). Contains (map (name_of t) l) (name_of t a)) (sym all) (in_second (name_of t) a x.held x.others)))
 
   -- what is taken next is not held yet
   not_held : (key : KeyId) (ty : Option TypeSite) (n : ℕ) (look : Key) → place names (name_of t look) ≡ Some key.0 → FitsAct limit c (spot key.0 log) (Hold q key ty n) → HoldsName names log (c, q.0) (name_of t look) → ⊥
@@ -310,7 +316,8 @@ module _ (t : Table) (limit : ℕ) (names : List Name) (c : ℕ) (log : List Ent
 
   -- a Hold of a call that has begun is that of its next look
   looks_next : (key : KeyId) (ty : Option TypeSite) (n : ℕ) → FitsHold t names c log (Hold q key ty n) → HoldsNext t names c q key log
-  looks_next key ty n (inl none) = absurd (let held = began_holds c q mine start log began in let zero_held : times (c, q.0) (spot mine.0 log).calls ≡ 0 = held_stands c q.0 mine.0 log ∙ ap (count_of mine.0) none in omega (arith, held, zero_held))
+  looks_next key ty n (inl none) = absurd (let held = began_holds c q mine start log began in
+      let zero_held : times (c, q.0) (spot mine.0 log).calls ≡ 0 = held_stands c q.0 mine.0 log ∙ ap (count_of mine.0) none in omega (arith, held, zero_held))
   looks_next key ty n (inr h) = h
 
   -- a call that is not decided gives a key back where the list of names is full
@@ -329,7 +336,8 @@ module _ (t : Table) (limit : ℕ) (names : List Name) (c : ℕ) (log : List Ent
   no_place : (p : Name) → place names p ≡ None → HoldsName names log (c, q.0) p → ⊥
   no_place p none h = none-some h.0 (sym none ∙ h.1)
 
-  hold_hold : (key other : KeyId) (ty ty' : Option TypeSite) (n n' : ℕ) → HoldsNext t names c q key log → HoldsNext t names c q other log → FitsAct limit c (spot key.0 log) (Hold q key ty n) → FitsAct limit c (spot other.0 log) (Hold q other ty' n') → Hold q key ty n ≡ Hold q other ty' n'
+  hold_hold : (key other : KeyId) (ty ty' : Option TypeSite) (n n' : ℕ) → HoldsNext t names c q key log → HoldsNext t names c q other log → FitsAct limit c (spot key.0 log) (Hold q key ty n)
+      → FitsAct limit c (spot other.0 log) (Hold q other ty' n') → Hold q key ty n ≡ Hold q other ty' n'
   hold_hold key other ty ty' n n' a b x y = hold_one limit c log q key other ty ty' n n' (elim (meets a.look b.look (near a.look a.next) (near b.look b.next)) [
     | inl is ↦ (let e : key.0 ≡ other.0 = same_Some key.0 other.0 (sym a.is ∙ ap (λ (l : Key). place names (name_of t l)) is ∙ b.is) in λ i. record { 0 = e i })
     | inr (inl h) ↦ absurd (not_held key ty n a.look a.is x h)
@@ -343,10 +351,12 @@ module _ (t : Table) (limit : ℕ) (names : List Name) (c : ℕ) (log : List Ent
     | inr (inr h) ↦ no_place (name_of t f.look) (f.full few).1 h
   ]
 
-  hold_call : (key : KeyId) (ty : Option TypeSite) (n : ℕ) (site : Option BodySite) (kinds : List Ty) (v : Verdict) → HoldsNext t names c q key log → TakesAt t log mine.0 kinds → FitsAct limit c (spot key.0 log) (Hold q key ty n) → IsDecided t names log (c, q.0) mine.0 site kinds v → ⊥
+  hold_call : (key : KeyId) (ty : Option TypeSite) (n : ℕ) (site : Option BodySite) (kinds : List Ty) (v : Verdict) → HoldsNext t names c q key log → TakesAt t log mine.0 kinds
+      → FitsAct limit c (spot key.0 log) (Hold q key ty n) → IsDecided t names log (c, q.0) mine.0 site kinds v → ⊥
   hold_call key ty n site kinds v a taken x d = not_held key ty n a.look a.is x (decided_holds a.look site kinds v (near a.look a.next) taken d)
 
-  free_call : (key : KeyId) (site : Option BodySite) (kinds : List Ty) (v : Verdict) → length names ≤ NAMES_MAX → IsFullRightly t names c q key log → TakesAt t log mine.0 kinds → IsDecided t names log (c, q.0) mine.0 site kinds v → ⊥
+  free_call : (key : KeyId) (site : Option BodySite) (kinds : List Ty) (v : Verdict) → length names ≤ NAMES_MAX → IsFullRightly t names c q key log → TakesAt t log mine.0 kinds
+      → IsDecided t names log (c, q.0) mine.0 site kinds v → ⊥
   free_call key site kinds v few f taken d = no_place (name_of t f.look) (f.full few).1 (decided_holds f.look site kinds v (near f.look f.next) taken d)
 
   free_free : (key other : KeyId) → IsFullRightly t names c q key log → IsFullRightly t names c q other log → Free q key ≡ Free q other
@@ -355,7 +365,8 @@ module _ (t : Table) (limit : ℕ) (names : List Name) (c : ℕ) (log : List Ent
       let second : g.next.key ≡ mine = (one_began c q g.next.key mine g.next.start start log g.next.began began).0 in
       ap (λ k. Free q k) (sym f.own ∙ first ∙ sym second ∙ g.own)
 
-  call_call : (site site' : Option BodySite) (args : ArgKinds) (v w : Verdict) → IsDecided t names log (c, q.0) mine.0 site (kinds_of args) v → IsDecided t names log (c, q.0) mine.0 site' (kinds_of args) w → IsRightWay c [] mine.0 log v → IsRightWay c [] mine.0 log w
+  call_call : (site site' : Option BodySite) (args : ArgKinds) (v w : Verdict) → IsDecided t names log (c, q.0) mine.0 site (kinds_of args) v
+      → IsDecided t names log (c, q.0) mine.0 site' (kinds_of args) w → IsRightWay c [] mine.0 log v → IsRightWay c [] mine.0 log w
       → Call q mine site args v ≡ Call q mine site' args w
   call_call site site' args v w a b x y =
       let sites : site ≡ site' = a.defined ∙ sym b.defined in
@@ -370,38 +381,50 @@ opened c q k log o =
     let key : o.key ≡ record { 0 = k } = (let e = o.key_is in λ i. record { 0 = e i }) in
     subst (λ (p : CallNo). Began c p (record { 0 = k }) o.start log) call (subst (λ (j : KeyId). Began c o.call j o.start log) key o.began)
 
-goes_one : (t : Table) (limit : ℕ) (names : List Name) (c : ℕ) (log : List Entry) (q k : ℕ) (kinds : List Ty) (a b : Act) → Answers (Goes q k kinds) a → Answers (Goes q k kinds) b → IsOpen c q k log → length names ≤ NAMES_MAX
-    → FitsAct limit c (spot (key_of a) log) a → FitsAct limit c (spot (key_of b) log) b → FitsRules t names c log a → FitsRules t names c log b → EntersBy c [] log a → EntersBy c [] log b → FitsArguments t log (Goes q k kinds) a → FitsArguments t log (Goes q k kinds) b → a ≡ b
+goes_one : (t : Table) (limit : ℕ) (names : List Name) (c : ℕ) (log : List Entry) (q k : ℕ) (kinds : List Ty) (a b : Act) → Answers (Goes q k kinds) a → Answers (Goes q k kinds) b
+    → IsOpen c q k log → length names ≤ NAMES_MAX
+    → FitsAct limit c (spot (key_of a) log) a → FitsAct limit c (spot (key_of b) log) b → FitsRules t names c log a → FitsRules t names c log b → EntersBy c [] log a → EntersBy c [] log b
+    → FitsArguments t log (Goes q k kinds) a → FitsArguments t log (Goes q k kinds) b → a ≡ b
 goes_one t limit names c log _ _ _ _ _ (Looked k kinds q key ty n) (Looked _ _ _ other ty' n') o few f g r s va vb x y =
     let mine : KeyId = record { 0 = k } in let b = opened c q k log o in
-    hold_hold t limit names c log q mine o.start b o.same key other ty ty' n n' (looks_next t limit names c log q mine o.start b o.same key ty n r.hold) (looks_next t limit names c log q mine o.start b o.same other ty' n' s.hold) f g
+    hold_hold t limit names c log q mine o.start b o.same key other ty ty' n n' (looks_next t limit names c log q mine o.start b o.same key ty n r.hold)
+    (looks_next t limit names c log q mine o.start b o.same other ty' n' s.hold) f g
 goes_one t limit names c log _ _ _ _ _ (Looked k kinds q key ty n) (GaveBack _ _ _ other) o few f g r s va vb x y =
     let mine : KeyId = record { 0 = k } in let b = opened c q k log o in
-    absurd (hold_free t limit names c log q mine o.start b o.same key other ty n few (looks_next t limit names c log q mine o.start b o.same key ty n r.hold) (full_next t limit names c log q mine o.start b o.same other o.undecided (o.goes_on q refl) s.free) f)
+    absurd (hold_free t limit names c log q mine o.start b o.same key other ty n few (looks_next t limit names c log q mine o.start b o.same key ty n r.hold)
+    (full_next t limit names c log q mine o.start b o.same other o.undecided (o.goes_on q refl) s.free) f)
 goes_one t limit names c log _ _ _ _ _ (Looked k kinds q key ty n) (Decided _ args _ mine site v e) o few f g r s va vb x y =
     let b = opened c q mine.0 log o in
-    absurd (hold_call t limit names c log q mine o.start b o.same key ty n site kinds v (looks_next t limit names c log q mine o.start b o.same key ty n r.hold) x f (subst (λ (ks : List Ty). IsDecided t names log (c, q.0) mine.0 site ks v) e s.row.0))
+    absurd (hold_call t limit names c log q mine o.start b o.same key ty n site kinds v (looks_next t limit names c log q mine o.start b o.same key ty n r.hold) x f
+    (subst (λ (ks : List Ty). IsDecided t names log (c, q.0) mine.0 site ks v) e s.row.0))
 goes_one t limit names c log _ _ _ _ _ (GaveBack k kinds q key) (Looked _ _ _ other ty n) o few f g r s va vb x y =
     let mine : KeyId = record { 0 = k } in let b = opened c q k log o in
-    absurd (hold_free t limit names c log q mine o.start b o.same other key ty n few (looks_next t limit names c log q mine o.start b o.same other ty n s.hold) (full_next t limit names c log q mine o.start b o.same key o.undecided (o.goes_on q refl) r.free) g)
+    absurd (hold_free t limit names c log q mine o.start b o.same other key ty n few (looks_next t limit names c log q mine o.start b o.same other ty n s.hold)
+    (full_next t limit names c log q mine o.start b o.same key o.undecided (o.goes_on q refl) r.free) g)
 goes_one t limit names c log _ _ _ _ _ (GaveBack k kinds q key) (GaveBack _ _ _ other) o few f g r s va vb x y =
     let mine : KeyId = record { 0 = k } in let b = opened c q k log o in
-    free_free t limit names c log q mine o.start b o.same key other (full_next t limit names c log q mine o.start b o.same key o.undecided (o.goes_on q refl) r.free) (full_next t limit names c log q mine o.start b o.same other o.undecided (o.goes_on q refl) s.free)
+    free_free t limit names c log q mine o.start b o.same key other (full_next t limit names c log q mine o.start b o.same key o.undecided (o.goes_on q refl) r.free)
+    (full_next t limit names c log q mine o.start b o.same other o.undecided (o.goes_on q refl) s.free)
 goes_one t limit names c log _ _ _ _ _ (GaveBack k kinds q key) (Decided _ args _ mine site v e) o few f g r s va vb x y =
     let b = opened c q mine.0 log o in
-    absurd (free_call t limit names c log q mine o.start b o.same key site kinds v few (full_next t limit names c log q mine o.start b o.same key o.undecided (o.goes_on q refl) r.free) x (subst (λ (ks : List Ty). IsDecided t names log (c, q.0) mine.0 site ks v) e s.row.0))
+    absurd (free_call t limit names c log q mine o.start b o.same key site kinds v few (full_next t limit names c log q mine o.start b o.same key o.undecided (o.goes_on q refl) r.free) x
+    (subst (λ (ks : List Ty). IsDecided t names log (c, q.0) mine.0 site ks v) e s.row.0))
 goes_one t limit names c log _ _ _ _ _ (Decided kinds args q mine site v e) (Looked _ _ _ key ty n) o few f g r s va vb x y =
     let b = opened c q mine.0 log o in
-    absurd (hold_call t limit names c log q mine o.start b o.same key ty n site kinds v (looks_next t limit names c log q mine o.start b o.same key ty n s.hold) y g (subst (λ (ks : List Ty). IsDecided t names log (c, q.0) mine.0 site ks v) e r.row.0))
+    absurd (hold_call t limit names c log q mine o.start b o.same key ty n site kinds v (looks_next t limit names c log q mine o.start b o.same key ty n s.hold) y g
+    (subst (λ (ks : List Ty). IsDecided t names log (c, q.0) mine.0 site ks v) e r.row.0))
 goes_one t limit names c log _ _ _ _ _ (Decided kinds args q mine site v e) (GaveBack _ _ _ key) o few f g r s va vb x y =
     let b = opened c q mine.0 log o in
-    absurd (free_call t limit names c log q mine o.start b o.same key site kinds v few (full_next t limit names c log q mine o.start b o.same key o.undecided (o.goes_on q refl) s.free) y (subst (λ (ks : List Ty). IsDecided t names log (c, q.0) mine.0 site ks v) e r.row.0))
+    absurd (free_call t limit names c log q mine o.start b o.same key site kinds v few (full_next t limit names c log q mine o.start b o.same key o.undecided (o.goes_on q refl) s.free) y
+    (subst (λ (ks : List Ty). IsDecided t names log (c, q.0) mine.0 site ks v) e r.row.0))
 goes_one t limit names c log _ _ _ _ _ (Decided kinds args q mine site v e) (Decided _ other _ _ site' w e') o few f g r s va vb x y =
     let args_are : args ≡ other = r.row.1 ∙ ap fill (e ∙ sym e') ∙ sym s.row.1 in
     ap (λ (a : ArgKinds). Call q mine site a v) args_are
-    ∙ call_call t limit names c log q mine o.start (opened c q mine.0 log o) o.same site site' other v w (subst (λ (a : ArgKinds). IsDecided t names log (c, q.0) mine.0 site (kinds_of a) v) args_are r.row.0) s.row.0 va vb
+    ∙ call_call t limit names c log q mine o.start (opened c q mine.0 log o) o.same site site' other v w
+    (subst (λ (a : ArgKinds). IsDecided t names log (c, q.0) mine.0 site (kinds_of a) v) args_are r.row.0) s.row.0 va vb
 
-pub one_answer : (t : Table) (limit : ℕ) (names : List Name) (c : ℕ) (log : List Entry) → IsLegal limit log → (u : Question) (a b : Act) → IsAsked c log u → IsAnswer t limit names c log u a → IsAnswer t limit names c log u b → FitsArguments t log u a → FitsArguments t log u b → a ≡ b
+pub one_answer : (t : Table) (limit : ℕ) (names : List Name) (c : ℕ) (log : List Entry) → IsLegal limit log → (u : Question) (a b : Act) → IsAsked c log u → IsAnswer t limit names c log u a
+    → IsAnswer t limit names c log u b → FitsArguments t log u a → FitsArguments t log u b → a ≡ b
 one_answer t limit names c log legal (Defines k s) a b asked x y fa fb = define_one limit c log k s a b x.answers y.answers x.fits y.fits
 one_answer t limit names c log legal (Declares k s) a b asked x y fa fb = declare_one limit c log k s a b x.answers y.answers x.fits y.fits
 one_answer t limit names c log legal (Starts q k) a b asked x y fa fb = start_one limit c log q k a b x.answers y.answers x.fits y.fits

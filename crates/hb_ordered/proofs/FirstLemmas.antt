@@ -77,7 +77,8 @@ real_script c (suc i) (s ∷ ss) h = go (eqb (c + suc i) c) (ap (λ n. among n (
 rest_other : (t : Table) (c : ℕ) (l : List Act) → among c (callers_from 1 t.scripts) ≡ false → AllByRecursion (HasCaller t) (entries_by c l) → rest_of (entries_by c l) ≡ []
 rest_other t c [] lacks h = refl
 rest_other t zero (a ∷ l) lacks h = rest_other t zero l lacks h.1
-rest_other t (suc i) (a ∷ l) lacks h = absurd (let yes : among (1 + i) (callers_from 1 t.scripts) ≡ true = real_script 1 i t.scripts h.0 in let e : suc i ≡ 1 + i = omega arith in let never : false ≡ true = sym lacks ∙ ap (λ n. among n (callers_from 1 t.scripts)) e ∙ yes in cc never)
+rest_other t (suc i) (a ∷ l) lacks h = absurd (let yes : among (1 + i) (callers_from 1 t.scripts) ≡ true = real_script 1 i t.scripts h.0 in let e : suc i ≡ 1 + i = omega arith in
+    let never : false ≡ true = sym lacks ∙ ap (λ n. among n (callers_from 1 t.scripts)) e ∙ yes in cc never)
 
 all_parts : (t : Table) (l m : List Entry) → AllByRecursion (HasCaller t) (l ++ m) → AllByRecursion (HasCaller t) l × AllByRecursion (HasCaller t) m
 all_parts t [] m h = (tt, h)
@@ -98,7 +99,8 @@ rest_turns t (u ∷ us) h =
     go true e h k = ap (λ l. l ++ rest_of (entries_of us)) (rest_by u.caller u.acts (not_zero u.caller t.scripts e)) ∙ ap (λ l. entries_by u.caller u.acts ++ l) k
     go false e h k = ap (λ l. l ++ rest_of (entries_of us)) (rest_other t u.caller u.acts e h) ∙ k
 
-pub first_of : (t : Table) (log start : List Entry) (us : List Taken) → Every IsInTurn log → Every (λ before e. HasCaller t e) log → log ≡ start ++ entries_of us → AreOwn 0 start → log ≡ entries_by 0 (acts 0 log) ++ entries_of (only (callers_from 1 t.scripts) us)
+pub first_of : (t : Table) (log start : List Entry) (us : List Taken) → Every IsInTurn log → Every (λ before e. HasCaller t e) log → log ≡ start ++ entries_of us → AreOwn 0 start
+    → log ≡ entries_by 0 (acts 0 log) ++ entries_of (only (callers_from 1 t.scripts) us)
 first_of t log start us turn callers is own =
     let both = all_parts t start (entries_of us) (subst (AllByRecursion (HasCaller t)) is (all_of t log callers)) in
     zero_first log turn ∙ ap (λ l. entries_by 0 (acts 0 log) ++ l) (ap rest_of is ∙ rest_join start (entries_of us) ∙ ap (λ l. l ++ rest_of (entries_of us)) (rest_own start own) ∙ rest_turns t us both.1)

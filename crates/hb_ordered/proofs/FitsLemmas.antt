@@ -39,7 +39,9 @@ typed_so : (m : Option MethodTy) (kinds : List Ty) → typed_takes m kinds ≡ t
 typed_so None kinds h = absurd (cc h)
 typed_so (Some m) kinds h = (m, refl, h)
 
-pub began_takes : (t : Table) (limit c : ℕ) (q : CallNo) (key : KeyId) (start log : List Entry) (b : Began c q key start log) (kinds : List Ty) → IsLegal limit log → takes_at t b.ty kinds ≡ true → TakesAt t log key.0 kinds
+pub began_takes : (t : Table) (limit c : ℕ) (q : CallNo) (key : KeyId) (start log : List Entry) (b : Began c q key start log) (kinds : List Ty) → IsLegal limit log → takes_at t b.ty kinds ≡ true
+    → TakesAt t log key.0 kinds
 began_takes t limit c q key start log b kinds legal fits =
-    let ty : takes_at t b.ty kinds ≡ typed_takes (type_of_key t log key.0) kinds = ap (λ (o : Option TypeSite). typed_takes (type_at (sites_of t) (option_map (λ (s : TypeSite). s.0) o)) kinds) (began_type limit c q key start log b legal) in
+    let ty : takes_at t b.ty kinds ≡ typed_takes (type_of_key t log key.0) kinds = ap (λ (o : Option TypeSite). typed_takes (type_at (sites_of t) (option_map (λ (s : TypeSite). s.0) o)) kinds)
+    (began_type limit c q key start log b legal) in
     typed_so (type_of_key t log key.0) kinds (sym ty ∙ fits)

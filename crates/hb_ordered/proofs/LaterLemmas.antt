@@ -8,7 +8,8 @@ use Rattle.hb_tree.specs.Table.{Table}
 use Rattle.hb_tree.specs.TreeAt.{tree_at}
 use Rattle.hb_tree.specs.Nodes.{params_of}
 use Rattle.hb_tree.specs.Canon.{bytes_at}
-use Rattle.hb_tree.specs.Tree.{Tree, TNil, TTrue, TFalse, TSelf, TInt, TText, TVar, TNew, TAssign, TPrint, TToStr, TNot, TBinary, TIf, TWhile, TCall, TDef, TDefComputed, TDeclare, TDeclareComputed, TBlock, Forest, NoTree, Trees}
+use Rattle.hb_tree.specs.Tree.{Tree, TNil, TTrue, TFalse, TSelf, TInt, TText, TVar, TNew, TAssign, TPrint, TToStr, TNot, TBinary, TIf, TWhile, TCall, TDef, TDefComputed}
+use Rattle.hb_tree.specs.Tree.{TDeclare, TDeclareComputed, TBlock, Forest, NoTree, Trees}
 use Rattle.hb_names.specs.declared.names.TheConstants.{NAMES_MAX}
 use Rattle.hb_names.specs.Names.{Name, place}
 use Rattle.hb_tables.specs.declared.entry.Act.{Act}
@@ -141,14 +142,17 @@ module _ (rd : List (ℕ × Act)) where
       later_ev (TPrint id e) s p = later_begin id _ (λ s p. later_then (ev t names call e s) _ (later_ev e s p) (λ v s p. later_printed id (shown t v) s p)) s p
       later_ev (TToStr id e) s p = later_begin id _ (λ s p. later_then (ev t names call e s) _ (later_ev e s p) (λ v s p. p)) s p
       later_ev (TNot id e) s p = later_begin id _ (λ s p. later_then (ev t names call e s) _ (later_ev e s p) (λ v s p. p)) s p
-      later_ev (TBinary id o a b) s p = later_begin id _ (λ s p. later_then (ev t names call a s) _ (later_ev a s p) (λ v s p. later_then (ev t names call b s) _ (later_ev b s p) (λ w s p. later_gives id (operate o v w) s p))) s p
+      later_ev (TBinary id o a b) s p = later_begin id _ (λ s p. later_then (ev t names call a s) _ (later_ev a s p)
+          (λ v s p. later_then (ev t names call b s) _ (later_ev b s p) (λ w s p. later_gives id (operate o v w) s p))) s p
       later_ev (TIf id c a b) s p = later_begin id _ (λ s p. later_then (ev t names call c s) _ (later_ev c s p) (λ v s p. later_if (is_false v) _ _ (later_ev b s p) (later_ev a s p))) s p
       later_ev (TWhile id c b) s p = later_begin id _ (λ s p. later_loop (ev t names call c) (ev t names call b) (λ s p. later_ev c s p) (λ s p. later_ev b s p) s p) s p
       later_ev (TCall id r m args) s p = later_begin id _ (λ s p. later_then (ev t names call r s) _ (later_ev r s p) (λ v s p. later_args args [] (λ vs s. call id v m vs s) (λ vs s p. ok id v m vs s p) s p)) s p
       later_ev (TDef id c m site b) s p = later_begin id _ (λ s p. later_define names id (c, bytes_at t.names m) site s p) s p
-      later_ev (TDefComputed id c e site b) s p = later_begin id _ (λ s p. later_then (ev t names call e s) _ (later_ev e s p) (λ v s p. later_named id v _ (λ bytes s p. later_define names id (c, bytes) site s p) s p)) s p
+      later_ev (TDefComputed id c e site b) s p = later_begin id _
+          (λ s p. later_then (ev t names call e s) _ (later_ev e s p) (λ v s p. later_named id v _ (λ bytes s p. later_define names id (c, bytes) site s p) s p)) s p
       later_ev (TDeclare id c m site asks) s p = later_begin id _ (λ s p. later_declare names id asks (c, bytes_at t.names m) site s p) s p
-      later_ev (TDeclareComputed id c e site asks) s p = later_begin id _ (λ s p. later_then (ev t names call e s) _ (later_ev e s p) (λ v s p. later_named id v _ (λ bytes s p. later_declare names id asks (c, bytes) site s p) s p)) s p
+      later_ev (TDeclareComputed id c e site asks) s p = later_begin id _
+          (λ s p. later_then (ev t names call e s) _ (later_ev e s p) (λ v s p. later_named id v _ (λ bytes s p. later_declare names id asks (c, bytes) site s p) s p)) s p
       later_ev (TBlock id es) s p = later_items es value.Nil s p
 
       pub later_items : (es : Forest) (v : Value) → Keeps (ev_items t names call es v)
@@ -190,7 +194,8 @@ module _ (rd : List (ℕ × Act)) where
   later_called t run k id c args NoCall s p = tt
   later_called t run k id c args (FullAt rest) s p = prefix_more rd s.read (tagged s.begun (acts_before rest s.journal)) p
   later_called t run k id c args (Called site v held rest) s p =
-      later_decided id (run_body run s.next c args held (body_at t site)) (λ s p. later_body run k _ c args held (body_at t site) s p) v (numbered (read_to rest s)) (prefix_more rd s.read (tagged s.begun (acts_before rest s.journal)) p)
+      later_decided id (run_body run s.next c args held (body_at t site)) (λ s p. later_body run k _ c args held (body_at t site) s p) v (numbered (read_to rest s))
+      (prefix_more rd s.read (tagged s.begun (acts_before rest s.journal)) p)
 
   pub later_received : (id : ℕ) (r : Result ClassId Stop) (go : ClassId → St → Answer) → ((c : ClassId) → Keeps (go c)) → Keeps (λ s. received id r s (λ c. go c s))
   unfolding Keeps Later
@@ -202,4 +207,5 @@ module _ (rd : List (ℕ × Act)) where
   later_calls t names zero id r m vs s p = later_received id (receiver r) (λ c s. Halt stop.Deep id s) (λ c s p. p) s p
   later_calls t names (suc room) id r m vs s p = later_received id (receiver r) _ (λ c s p.
       later_key names id (place names (c.0, bytes_at t.names m)) _ (λ key s p.
-      later_called t (λ block s. ev t names (call_in t names room) (tree_at t block) s) (λ block s p. later_ev t names (call_in t names room) (later_calls t names room) (tree_at t block) s p) id c vs (call_of t s.next key (map kind_of vs) s.journal) s p) s p) s p
+      later_called t (λ block s. ev t names (call_in t names room) (tree_at t block) s)
+      (λ block s p. later_ev t names (call_in t names room) (later_calls t names room) (tree_at t block) s p) id c vs (call_of t s.next key (map kind_of vs) s.journal) s p) s p) s p

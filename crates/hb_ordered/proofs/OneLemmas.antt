@@ -34,11 +34,14 @@ use Rattle.hb_ordered.proofs.WalkLemmas.{GoOnAlike, Turned, entries_cut, not_zer
 
 -- ── two histories of one list of names ──
 
-pub go_on_alike : (t : Table) (limit steps : ℕ) (names : List Name) (log log' : List Entry) (runs runs' : List Told) → IsHistory t limit steps names log runs → IsHistory t limit steps names log' runs' → GoOnAlike t log log'
+pub go_on_alike : (t : Table) (limit steps : ℕ) (names : List Name) (log log' : List Entry) (runs runs' : List Told) → IsHistory t limit steps names log runs
+    → IsHistory t limit steps names log' runs' → GoOnAlike t log log'
 go_on_alike t limit steps names log log' runs runs' h k c before rest rest' done first second p read e f =
     let here : List Entry = before ++ entries_by c p.since in
-    let one : IsAnswer t limit names c here p.question p.a = record { answers = p.answer_a; few = h.few; fits = h.legal here rest (entry c p.a) e; rules = h.rules here rest (entry c p.a) e; way = h.ways here rest (entry c p.a) e } in
-    let two : IsAnswer t limit names c here p.question p.b = record { answers = p.answer_b; few = k.few; fits = k.legal here rest' (entry c p.b) f; rules = k.rules here rest' (entry c p.b) f; way = k.ways here rest' (entry c p.b) f } in
+    let one : IsAnswer t limit names c here p.question p.a = record
+    { answers = p.answer_a; few = h.few; fits = h.legal here rest (entry c p.a) e; rules = h.rules here rest (entry c p.a) e; way = h.ways here rest (entry c p.a) e } in
+    let two : IsAnswer t limit names c here p.question p.b = record
+    { answers = p.answer_b; few = k.few; fits = k.legal here rest' (entry c p.b) f; rules = k.rules here rest' (entry c p.b) f; way = k.ways here rest' (entry c p.b) f } in
     next_one t limit names c before done first second p (legal_prefix limit here log (entry c p.a ∷ rest, sym e) h.legal) read one two
 
 -- ── the runs ──
@@ -73,7 +76,8 @@ all_one t names steps log (Some b) (r ∷ rs) (s ∷ ss) h k =
 
 -- ── the setup ──
 
-module _ (t : Table) (steps : ℕ) (names : List Name) (log log' others others' : List Entry) (is : log ≡ entries_by 0 (acts 0 log) ++ others) (is' : log' ≡ entries_by 0 (acts 0 log') ++ others') (alike : GoOnAlike t log log') (block : ℕ) (r w : Run)
+module _ (t : Table) (steps : ℕ) (names : List Name) (log log' others others' : List Entry) (is : log ≡ entries_by 0 (acts 0 log) ++ others) (is' : log' ≡ entries_by 0 (acts 0 log') ++ others')
+    (alike : GoOnAlike t log log') (block : ℕ) (r w : Run)
     (reads : script_run t names (call_in t names 4096) block steps (acts 0 log) ≡ Some r) (reads' : script_run t names (call_in t names 4096) block steps (acts 0 log') ≡ Some w) where
   parts_at : (P X Y : List Act) → acts 0 log ≡ P ++ X → acts 0 log' ≡ P ++ Y → ((X ≡ []) × (Y ≡ [])) ⊎ Part t P X Y r w
   parts_at P X Y e f = runs_part t P X Y names 4096 block steps r w
@@ -94,7 +98,8 @@ module _ (t : Table) (steps : ℕ) (names : List Name) (log log' others others' 
   same_behind P (x ∷ X) (y ∷ Y) e f =
       let one : x ≡ y = elim (parts_at P (x ∷ X) (y ∷ Y) e f) as (λ z. x ≡ y) [
         | inl none ↦ absurd (let h : x ∷ X ≡ [] = none.0 in cc h)
-        | inr part ↦ (let same = same_head P (x ∷ X) (y ∷ Y) e f part.0 in let i : x ≡ part.0.a = (let h : x ∷ X ≡ part.0.a ∷ part.0.behind_a = part.0.is_a in cc h) in let j : y ≡ part.0.b = (let h : y ∷ Y ≡ part.0.b ∷ part.0.behind_b = part.0.is_b in cc h) in i ∙ same ∙ sym j)
+        | inr part ↦ (let same = same_head P (x ∷ X) (y ∷ Y) e f part.0 in let i : x ≡ part.0.a = (let h : x ∷ X ≡ part.0.a ∷ part.0.behind_a = part.0.is_a in cc h) in
+            let j : y ≡ part.0.b = (let h : y ∷ Y ≡ part.0.b ∷ part.0.behind_b = part.0.is_b in cc h) in i ∙ same ∙ sym j)
       ] in
       let more = same_behind (P ++ x ∷ []) X Y (e ∙ sym (append_assoc P (x ∷ []) X)) (f ∙ ap (λ z. P ++ z ∷ Y) (sym one) ∙ sym (append_assoc P (x ∷ []) Y)) in
       ap (λ z. z ∷ X) one ∙ ap (λ l. y ∷ l) more
@@ -182,7 +187,8 @@ module _ (t : Table) (steps : ℕ) (names : List Name) (log log' : List Entry) w
   moved : (r : Told) → acts 0 log ≡ acts 0 log' → IsRunOf t names steps log 0 r → IsRunOf t names steps log' 0 r
   moved r same x = record { block = x.block; runs = x.runs; run = x.run; reads = ap (λ l. script_run t names (call_in t names 4096) x.block.0 steps l) (sym same) ∙ x.reads; tells = x.tells }
 
-  scripts_none : (o : Option NodeId) (rs ss : List Told) → AreAllRuns t names steps log o rs → AreAllRuns t names steps log' o ss → acts 0 log ≡ acts 0 log' → ((c : ℕ) → among c (callers_from 1 t.scripts) ≡ true → acts c log ≡ [])
+  scripts_none : (o : Option NodeId) (rs ss : List Told) → AreAllRuns t names steps log o rs → AreAllRuns t names steps log' o ss → acts 0 log ≡ acts 0 log'
+      → ((c : ℕ) → among c (callers_from 1 t.scripts) ≡ true → acts c log ≡ [])
       → (c : ℕ) → among c (callers_from 1 t.scripts) ≡ true → acts c log' ≡ []
   scripts_none None rs ss h k same none c real =
       let x = runs_at t names steps log (callers_from 1 t.scripts) rs c h real in
@@ -233,16 +239,18 @@ module _ (t : Table) (limit steps : ℕ) (order : List ℕ) (names : List Name) 
       let silent : (c : ℕ) → among c (callers_from 1 t.scripts) ≡ true → acts c log ≡ [] = λ c real. ap (acts c) alone ∙ own_idle 0 c (entries_by 0 (acts 0 log)) (not_zero c t.scripts real) (own_by (acts 0 log)) in
       let others : (c : ℕ) → among c (callers_from 1 t.scripts) ≡ true → acts c log' ≡ [] = scripts_none t steps names log log' t.setup runs runs' h.all_runs k.all_runs zero silent in
       let empty : entries_of b.turns ≡ [] = no_entries (callers_from 1 t.scripts) b.turns b.mine (λ c real.
-          right_none (acts c (entries_by 0 (acts 0 log'))) (acts c (entries_of b.turns)) (sym (acts_append c (entries_by 0 (acts 0 log')) (entries_of b.turns)) ∙ ap (acts c) (sym b.is) ∙ others c real)) in
+      right_none (acts c (entries_by 0 (acts 0 log'))) (acts c (entries_of b.turns)) (sym (acts_append c (entries_by 0 (acts 0 log')) (entries_of b.turns)) ∙ ap (acts c) (sym b.is) ∙ others c real)) in
       alone ∙ ap (entries_by 0) zero ∙ sym (b.is ∙ ap (λ l. entries_by 0 (acts 0 log') ++ l) empty ∙ append-nil (entries_by 0 (acts 0 log')))
 
   walked : AreTagged t names steps log a.turns (callers_from 1 t.scripts) → AreTagged t names steps log' b.turns (callers_from 1 t.scripts) → log ≡ log'
   walked x y =
       let one : Turned t steps names (entries_by 0 (acts 0 log)) log a.turns = record { is = a.is; own = own_by (acts 0 log); numbers = a.numbers; tagged = x; mine = a.mine } in
-      let two : Turned t steps names (entries_by 0 (acts 0 log)) log' b.turns = record { is = b.is ∙ ap (λ l. entries_by 0 l ++ entries_of b.turns) (sym zero); own = own_by (acts 0 log); numbers = b.numbers; tagged = y; mine = b.mine } in
+      let two : Turned t steps names (entries_by 0 (acts 0 log)) log' b.turns = record
+      { is = b.is ∙ ap (λ l. entries_by 0 l ++ entries_of b.turns) (sym zero); own = own_by (acts 0 log); numbers = b.numbers; tagged = y; mine = b.mine } in
       one_log t steps names (entries_by 0 (acts 0 log)) log log' a.turns b.turns one two alike order a.in_order b.in_order
 
-one_list : (t : Table) (limit steps : ℕ) (order : List ℕ) (names : List Name) (log log' : List Entry) (runs runs' : List Told) → IsHistory t limit steps names log runs → IsHistory t limit steps names log' runs' → Scripted t steps order names log → Scripted t steps order names log' → log ≡ log'
+one_list : (t : Table) (limit steps : ℕ) (order : List ℕ) (names : List Name) (log log' : List Entry) (runs runs' : List Told) → IsHistory t limit steps names log runs
+    → IsHistory t limit steps names log' runs' → Scripted t steps order names log → Scripted t steps order names log' → log ≡ log'
 one_list t limit steps order names log log' runs runs' h k a b = go a.tagged b.tagged
   where
     go : (a.turns ≡ []) ⊎ AreTagged t names steps log a.turns (callers_from 1 t.scripts) → (b.turns ≡ []) ⊎ AreTagged t names steps log' b.turns (callers_from 1 t.scripts) → log ≡ log'
@@ -250,7 +258,8 @@ one_list t limit steps order names log log' runs runs' h k a b = go a.tagged b.t
     go (inr x) (inl none) = sym (quiet t limit steps order names log' log runs' runs k h b a none)
     go (inr x) (inr y) = walked t limit steps order names log log' runs runs' h k a b x y
 
-pub one_history : (t : Table) (limit steps : ℕ) (order : List ℕ) (names : List Name) (log log' : List Entry) (runs runs' : List Told) → IsOrdered t limit steps order names log runs → IsOrdered t limit steps order names log' runs' → (log ≡ log') × (runs ≡ runs')
+pub one_history : (t : Table) (limit steps : ℕ) (order : List ℕ) (names : List Name) (log log' : List Entry) (runs runs' : List Told) → IsOrdered t limit steps order names log runs
+    → IsOrdered t limit steps order names log' runs' → (log ≡ log') × (runs ≡ runs')
 one_history t limit steps order names log log' runs runs' a b =
     let logs = one_list t limit steps order names log log' runs runs' a.history b.history (scripted t limit steps order names log runs a) (scripted t limit steps order names log' runs' b) in
     (logs, all_one t names steps log' t.setup runs runs' (subst (λ l. AreAllRuns t names steps l t.setup runs) logs a.history.all_runs) b.history.all_runs)

@@ -92,7 +92,8 @@ all_at P Q R f g (a ∷ l) m (z ∷ xs) ys x h k e = all_at P Q R f g l m xs ys 
 acts_at : (c : ℕ) (b a : List Entry) (x : Act) → acts c (b ++ entry c x ∷ a) ≡ acts c b ++ x ∷ acts c a
 acts_at c b a x = acts_append c b (entry c x ∷ a) ∙ ap (λ l. acts c b ++ l) (let own = eq-eqb c c refl in rw own refl)
 
-module _ (c q : ℕ) (p : CallNo) (key : KeyId) (ty : Option TypeSite) (n : ℕ) (number : p.0 ≡ q) (before : List Entry) (more : List Act) (fresh : IsFresh q (acts c before)) (within : AllByRecursion (IsWithin q key.0) more) where
+module _ (c q : ℕ) (p : CallNo) (key : KeyId) (ty : Option TypeSite) (n : ℕ) (number : p.0 ≡ q) (before : List Entry) (more : List Act) (fresh : IsFresh q (acts c before))
+    (within : AllByRecursion (IsWithin q key.0) more) where
   log : List Entry
   log = before ++ entry c (Hold p key ty n) ∷ entries_by c more
 
@@ -136,7 +137,8 @@ module _ (c q : ℕ) (p : CallNo) (key : KeyId) (ty : Option TypeSite) (n : ℕ)
 
   part_at : (xs ys : List Act) (x : Act) → acts c log ≡ xs ++ x ∷ ys → IsPart x
   unfolding IsPart
-  part_at xs ys x e = all_at (λ a. is_of q a ≡ false) (λ a. (a ≡ Hold p key ty n) ⊎ IsWithin q key.0 a) IsPart (λ a h. inl h) (λ a h. inr h) (acts c before) (Hold p key ty n ∷ more) xs ys x fresh (inl refl, all more within) (sym acts_log ∙ e)
+  part_at xs ys x e = all_at (λ a. is_of q a ≡ false) (λ a. (a ≡ Hold p key ty n) ⊎ IsWithin q key.0 a) IsPart (λ a h. inl h) (λ a h. inr h) (acts c before) (Hold p key ty n ∷ more) xs ys x fresh
+      (inl refl, all more within) (sym acts_log ∙ e)
     where
       all : (l : List Act) → AllByRecursion (IsWithin q key.0) l → AllByRecursion (λ a. (a ≡ Hold p key ty n) ⊎ IsWithin q key.0 a) l
       all [] h = tt
@@ -164,19 +166,22 @@ module _ (c q : ℕ) (p : CallNo) (key : KeyId) (ty : Option TypeSite) (n : ℕ)
     where
       behind : (rest : List Entry) → start ++ rest ≡ g.at → KeepsHold q key.0 (acts c rest)
       behind rest e =
-          let whole : start ++ entries_by c more ≡ start ++ (rest ++ entry c (Free r g.key) ∷ g.since) = goes ∙ g.is ∙ ap (λ l. l ++ entry c (Free r g.key) ∷ g.since) (sym e) ∙ append_assoc start rest (entry c (Free r g.key) ∷ g.since) in
+          let whole : start ++ entries_by c more ≡ start ++ (rest ++ entry c (Free r g.key) ∷ g.since) = goes ∙ g.is ∙ ap (λ l. l ++ entry c (Free r g.key) ∷ g.since) (sym e)
+          ∙ append_assoc start rest (entry c (Free r g.key) ∷ g.since) in
           let parts = append_cancel_left start (entries_by c more) (rest ++ entry c (Free r g.key) ∷ g.since) whole in
           (keeps_parts q key.0 (acts c rest) (acts c (entry c (Free r g.key) ∷ g.since)) (subst (KeepsHold q key.0) (ap (acts c) parts ∙ acts_append c rest (entry c (Free r g.key) ∷ g.since)) all_keep)).0
 
       in_start : (rest : List Entry) → start ≡ g.at ++ entry c (Free r g.key) ∷ rest → ⊥
-      in_start rest e = first (all_at (λ a. is_of q a ≡ false) (λ a. a ≡ Hold p key ty n) (λ a. (is_of q a ≡ false) ⊎ (a ≡ Hold p key ty n)) (λ a h. inl h) (λ a h. inr h) (acts c before) (Hold p key ty n ∷ []) (acts c g.at) (acts c rest) (Free r g.key) fresh (refl, tt)
+      in_start rest e = first (all_at (λ a. is_of q a ≡ false) (λ a. a ≡ Hold p key ty n) (λ a. (is_of q a ≡ false) ⊎ (a ≡ Hold p key ty n)) (λ a h. inl h) (λ a h. inr h) (acts c before)
+          (Hold p key ty n ∷ []) (acts c g.at) (acts c rest) (Free r g.key) fresh (refl, tt)
           (sym (acts_at c before [] (Hold p key ty n)) ∙ ap (acts c) e ∙ acts_at c g.at rest (Free r g.key)))
         where
           first : (is_of q (Free r g.key) ≡ false) ⊎ (Free r g.key ≡ Hold p key ty n) → ⊥
           first (inl h) = let same = eq-eqb q r.0 (sym mine) in cc (same, h)
           first (inr h) = cc h
 
-      go : (is_of q (Free r g.key) ≡ false) ⊎ ((Free r g.key ≡ Hold p key ty n) ⊎ IsWithin q key.0 (Free r g.key)) → (IsPrefix start g.at) ⊎ ((rest : List Entry) × (start ≡ g.at ++ entry c (Free r g.key) ∷ rest)) → r ≡ p → ⊥
+      go : (is_of q (Free r g.key) ≡ false) ⊎ ((Free r g.key ≡ Hold p key ty n) ⊎ IsWithin q key.0 (Free r g.key))
+          → (IsPrefix start g.at) ⊎ ((rest : List Entry) × (start ≡ g.at ++ entry c (Free r g.key) ∷ rest)) → r ≡ p → ⊥
       go (inl h) w one = let same = eq-eqb q r.0 (sym mine) in cc (same, h)
       go (inr (inl h)) w one = cc h
       go (inr (inr h)) (inl w) one = other_key g.key h.1 (one_began c p g.key key g.start start g.at (subst (λ (x : CallNo). Began c x g.key g.start g.at) one g.began) (began_to g.at w.0 w.1 (behind w.0 w.1))).0
@@ -231,16 +236,19 @@ fresh_for n (Starts q k) l since r h = tt
 fresh_for n (Goes q k kinds) l since r h = subst (λ i. IsFresh i l) (sym r.0) (fresh_below n l h)
 fresh_for n (Ends q k) l since r h = tt
 
-takes_of : (t : Table) (limit c q k : ℕ) (kinds : List Ty) (before : List Entry) (since : List Act) → IsFresh q (acts c before) → IsSoFar q k since → IsLegal limit (before ++ entries_by c since) → first_takes t kinds since ≡ true → TakesAt t (before ++ entries_by c since) k kinds
+takes_of : (t : Table) (limit c q k : ℕ) (kinds : List Ty) (before : List Entry) (since : List Act) → IsFresh q (acts c before) → IsSoFar q k since → IsLegal limit (before ++ entries_by c since)
+    → first_takes t kinds since ≡ true → TakesAt t (before ++ entries_by c since) k kinds
 unfolding log
 takes_of t limit c q k kinds before [] fresh h legal fits = absurd h
 takes_of t limit c q k kinds before (a ∷ more) fresh h legal fits = go a h.0 fresh h.1 legal fits
   where
-    go : (a : Act) → Answers (Starts q k) a → IsFresh q (acts c before) → AllByRecursion (IsWithin q k) more → IsLegal limit (before ++ entries_by c (a ∷ more)) → first_takes t kinds (a ∷ more) ≡ true → TakesAt t (before ++ entries_by c (a ∷ more)) k kinds
+    go : (a : Act) → Answers (Starts q k) a → IsFresh q (acts c before) → AllByRecursion (IsWithin q k) more → IsLegal limit (before ++ entries_by c (a ∷ more))
+        → first_takes t kinds (a ∷ more) ≡ true → TakesAt t (before ++ entries_by c (a ∷ more)) k kinds
     go _ (Started p key ty n) fresh within legal fits = typed_here c p.0 p key ty n refl before more fresh within t limit kinds legal fits
 
 -- an act that goes past the first Hold rightly has arguments that fit
-fits_of : (t : Table) (limit c n : ℕ) (before : List Entry) (u : Question) (since : List Act) (a : Act) → IsReadFor n u since → IsFreshFor u (acts c before) → IsLegal limit (before ++ entries_by c since) → GoesPast t u since a → FitsArguments t (before ++ entries_by c since) u a
+fits_of : (t : Table) (limit c n : ℕ) (before : List Entry) (u : Question) (since : List Act) (a : Act) → IsReadFor n u since → IsFreshFor u (acts c before)
+    → IsLegal limit (before ++ entries_by c since) → GoesPast t u since a → FitsArguments t (before ++ entries_by c since) u a
 fits_of t limit c n before (Goes q k kinds) since (Hold p key ty m) h f legal past = takes_of t limit c q k kinds before since f h.1 legal past
 fits_of t limit c n before (Goes q k kinds) since (Free p key) h f legal past = takes_of t limit c q k kinds before since f h.1 legal past
 fits_of t limit c n before (Goes q k kinds) since (Call p key site args v) h f legal past = tt
@@ -254,9 +262,11 @@ fits_of t limit c n before (Declares k s) since a h f legal past = tt
 fits_of t limit c n before (Starts q k) since a h f legal past = tt
 fits_of t limit c n before (Ends q k) since a h f legal past = tt
 
-pub next_one : (t : Table) (limit : ℕ) (names : List Name) (c : ℕ) (before : List Entry) (common first second : List Act) (x : Parting t common first second) → IsLegal limit (before ++ entries_by c x.since) → acts c before ≡ map (λ e. e.1) x.state.read
+pub next_one : (t : Table) (limit : ℕ) (names : List Name) (c : ℕ) (before : List Entry) (common first second : List Act) (x : Parting t common first second)
+    → IsLegal limit (before ++ entries_by c x.since) → acts c before ≡ map (λ e. e.1) x.state.read
     → IsAnswer t limit names c (before ++ entries_by c x.since) x.question x.a → IsAnswer t limit names c (before ++ entries_by c x.since) x.question x.b → x.a ≡ x.b
 next_one t limit names c before common first second x legal read a b =
     let fresh = fresh_for x.state.next x.question (acts c before) x.since x.since_is (subst (AllByRecursion (IsBelow x.state.next)) (sym read) x.below) in
-    let fits : (e : Act) → GoesPast t x.question x.since e → FitsArguments t (before ++ entries_by c x.since) x.question e = λ e past. fits_of t limit c x.state.next before x.question x.since e x.since_is fresh legal past in
+    let fits : (e : Act) → GoesPast t x.question x.since e → FitsArguments t
+    (before ++ entries_by c x.since) x.question e = λ e past. fits_of t limit c x.state.next before x.question x.since e x.since_is fresh legal past in
     one_answer t limit names c (before ++ entries_by c x.since) legal x.question x.a x.b (asked_of c x.state.next before x.question x.since x.since_is fresh) a b (fits x.a x.past_a) (fits x.b x.past_b)

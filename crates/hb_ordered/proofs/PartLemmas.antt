@@ -34,7 +34,8 @@ looked q k kinds p key ty n e = subst (λ x. Answers (Goes x k kinds) (Hold p ke
 pub gave_back : (q k : ℕ) (kinds : List Ty) (p : CallNo) (key : KeyId) → p.0 ≡ q → Answers (Goes q k kinds) (Free p key)
 gave_back q k kinds p key e = subst (λ x. Answers (Goes x k kinds) (Free p key)) e (GaveBack k kinds p key)
 
-pub decided_by : (q k : ℕ) (kinds : List Ty) (p : CallNo) (key : KeyId) (site : Option BodySite) (args : ArgKinds) (v : Verdict) → p.0 ≡ q → key.0 ≡ k → kinds_of args ≡ kinds → Answers (Goes q k kinds) (Call p key site args v)
+pub decided_by : (q k : ℕ) (kinds : List Ty) (p : CallNo) (key : KeyId) (site : Option BodySite) (args : ArgKinds) (v : Verdict) → p.0 ≡ q → key.0 ≡ k → kinds_of args ≡ kinds
+    → Answers (Goes q k kinds) (Call p key site args v)
 decided_by q k kinds p key site args v e f g = subst (λ x. Answers (Goes x k kinds) (Call p key site args v)) e (subst (λ x. Answers (Goes p.0 x kinds) (Call p key site args v)) f (Decided kinds args p key site v g))
 
 pub ended : (q k : ℕ) (p : CallNo) (key : KeyId) → p.0 ≡ q → key.0 ≡ k → Answers (Ends q k) (Free p key)
@@ -105,10 +106,13 @@ called_leaves q site (verdict.IllTyped f) held m = refused_leaves m site (verdic
 decision_leaves : (fits : Bool) (q k : ℕ) (kinds : List Ty) (held : List Stand) (l : List Act) → Leaves l (decision fits q k kinds held l)
 unfolding Leaves
 decision_leaves fits q k kinds held [] = tt
-decision_leaves fits q k kinds held (Hold p j ty n ∷ l) = leaves_if (Hold p j ty n ∷ l) (fits && nat_eq p.0 q) _ NoCall (leaves_more (Hold p j ty n) l _ (decision_leaves fits q k kinds (held ++ record { key = j.0; ty = ty; changes = n } ∷ []) l)) tt
+decision_leaves fits q k kinds held (Hold p j ty n ∷ l) = leaves_if (Hold p j ty n ∷ l) (fits && nat_eq p.0 q) _ NoCall
+    (leaves_more (Hold p j ty n) l _ (decision_leaves fits q k kinds (held ++ record { key = j.0; ty = ty; changes = n } ∷ []) l)) tt
 decision_leaves fits q k kinds held (Free p j ∷ l) = leaves_if (Free p j ∷ l) (fits && nat_eq p.0 q) _ NoCall
-    (leaves_if (Free p j ∷ l) (nat_eq j.0 k) _ _ (full_leaves (Free p j ∷ l) (freed q held (Free p j ∷ l)) (freed_behind q held (Free p j ∷ l))) (leaves_more (Free p j) l _ (decision_leaves fits q k kinds (all_but j.0 held) l))) tt
-decision_leaves fits q k kinds held (Call p j site args v ∷ l) = leaves_if (Call p j site args v ∷ l) (nat_eq p.0 q && nat_eq j.0 k && same_kinds kinds (kinds_of args)) (called q site v held l) NoCall (leaves_more (Call p j site args v) l _ (called_leaves q site v held l)) tt
+    (leaves_if (Free p j ∷ l) (nat_eq j.0 k) _ _ (full_leaves (Free p j ∷ l) (freed q held (Free p j ∷ l)) (freed_behind q held (Free p j ∷ l)))
+    (leaves_more (Free p j) l _ (decision_leaves fits q k kinds (all_but j.0 held) l))) tt
+decision_leaves fits q k kinds held (Call p j site args v ∷ l) = leaves_if (Call p j site args v ∷ l) (nat_eq p.0 q && nat_eq j.0 k && same_kinds kinds (kinds_of args))
+    (called q site v held l) NoCall (leaves_more (Call p j site args v) l _ (called_leaves q site v held l)) tt
 decision_leaves fits q k kinds held (Retype j site ∷ l) = tt
 decision_leaves fits q k kinds held (Busy j pins ∷ l) = tt
 decision_leaves fits q k kinds held (WornType j ∷ l) = tt
@@ -125,7 +129,8 @@ freed_head : (q : ℕ) (h : Stand) (hs : List Stand) (l : List Act) → (freed q
 freed_head q h hs [] = inl refl
 freed_head q h hs (Free p key ∷ l) = go (nat_eq p.0 q && nat_eq key.0 h.key) refl (freed_behind q hs l)
   where
-    go : (b : Bool) → (nat_eq p.0 q && nat_eq key.0 h.key) ≡ b → Behind l (freed q hs l) → ((if b then freed q hs l else None) ≡ None) ⊎ Head (Ends q h.key) (Free p key ∷ l) (λ a m. Behind m (if b then freed q hs l else None))
+    go : (b : Bool) → (nat_eq p.0 q && nat_eq key.0 h.key) ≡ b → Behind l (freed q hs l)
+        → ((if b then freed q hs l else None) ≡ None) ⊎ Head (Ends q h.key) (Free p key ∷ l) (λ a m. Behind m (if b then freed q hs l else None))
     go true e r = let both = and_both _ _ e in inr (First (Free p key) l refl (ended q h.key p key (eqb-true p.0 q both.0) (eqb-true key.0 h.key both.1)) r)
     go false e r = inl refl
 freed_head q h hs (Hold p key ty n ∷ l) = inl refl
@@ -146,22 +151,29 @@ full_behind q k (h ∷ hs) p key l held = go (nat_eq p.0 q && nat_eq key.0 h.key
     go true = freed_behind q hs l
     go false = tt
 
-decision_head : (fits : Bool) (q k : ℕ) (kinds : List Ty) (held : List Stand) (l : List Act) → 1 ≤ count_of k held → (decision fits q k kinds held l ≡ NoCall) ⊎ Head (Goes q k kinds) l (λ a m. IsPast fits a × Leaves m (decision fits q k kinds held l))
+decision_head : (fits : Bool) (q k : ℕ) (kinds : List Ty) (held : List Stand) (l : List Act) → 1 ≤ count_of k held
+    → (decision fits q k kinds held l ≡ NoCall) ⊎ Head (Goes q k kinds) l (λ a m. IsPast fits a × Leaves m (decision fits q k kinds held l))
 decision_head fits q k kinds held [] has = inl refl
 decision_head fits q k kinds held (Hold p j ty n ∷ l) has = go (fits && nat_eq p.0 q) refl
   where
-    go : (b : Bool) → (fits && nat_eq p.0 q) ≡ b → ((if b then (decision fits q k kinds (held ++ record { key = j.0; ty = ty; changes = n } ∷ []) l) else NoCall) ≡ NoCall) ⊎ Head (Goes q k kinds) (Hold p j ty n ∷ l) (λ a m. IsPast fits a × Leaves m (if b then (decision fits q k kinds (held ++ record { key = j.0; ty = ty; changes = n } ∷ []) l) else NoCall))
-    go true e = inr (First (Hold p j ty n) l refl (looked q k kinds p j ty n (eqb-true p.0 q (and_both _ _ e).1)) ((and_both _ _ e).0, decision_leaves fits q k kinds (held ++ record { key = j.0; ty = ty; changes = n } ∷ []) l))
+    go : (b : Bool) → (fits && nat_eq p.0 q) ≡ b → ((if b then (decision fits q k kinds (held ++ record { key = j.0; ty = ty; changes = n } ∷ []) l) else NoCall) ≡ NoCall)
+        ⊎ Head (Goes q k kinds) (Hold p j ty n ∷ l) (λ a m. IsPast fits a × Leaves m (if b then (decision fits q k kinds (held ++ record { key = j.0; ty = ty; changes = n } ∷ []) l) else NoCall))
+    go true e = inr (First (Hold p j ty n) l refl (looked q k kinds p j ty n (eqb-true p.0 q (and_both _ _ e).1))
+        ((and_both _ _ e).0, decision_leaves fits q k kinds (held ++ record { key = j.0; ty = ty; changes = n } ∷ []) l))
     go false e = inl refl
 decision_head fits q k kinds held (Free p j ∷ l) has = go (fits && nat_eq p.0 q) refl
   where
-    go : (b : Bool) → (fits && nat_eq p.0 q) ≡ b → ((if b then (if nat_eq j.0 k then full_at (freed q held (Free p j ∷ l)) else decision fits q k kinds (all_but j.0 held) l) else NoCall) ≡ NoCall) ⊎ Head (Goes q k kinds) (Free p j ∷ l) (λ a m. IsPast fits a × Leaves m (if b then (if nat_eq j.0 k then full_at (freed q held (Free p j ∷ l)) else decision fits q k kinds (all_but j.0 held) l) else NoCall))
+    go : (b : Bool) → (fits && nat_eq p.0 q) ≡ b → ((if b then (if nat_eq j.0 k then full_at (freed q held (Free p j ∷ l)) else decision fits q k kinds (all_but j.0 held) l) else NoCall) ≡
+        NoCall) ⊎ Head (Goes q k kinds) (Free p j ∷ l) (λ a m. IsPast fits a
+        × Leaves m (if b then (if nat_eq j.0 k then full_at (freed q held (Free p j ∷ l)) else decision fits q k kinds (all_but j.0 held) l) else NoCall))
     go true e = inr (First (Free p j) l refl (gave_back q k kinds p j (eqb-true p.0 q (and_both _ _ e).1))
         ((and_both _ _ e).0, leaves_if l (nat_eq j.0 k) _ _ (full_leaves l (freed q held (Free p j ∷ l)) (full_behind q k held p j l has)) (decision_leaves fits q k kinds (all_but j.0 held) l)))
     go false e = inl refl
 decision_head fits q k kinds held (Call p j site args v ∷ l) has = go (nat_eq p.0 q && nat_eq j.0 k && same_kinds kinds (kinds_of args)) refl
   where
-    go : (b : Bool) → (nat_eq p.0 q && nat_eq j.0 k && same_kinds kinds (kinds_of args)) ≡ b → ((if b then called q site v held l else NoCall) ≡ NoCall) ⊎ Head (Goes q k kinds) (Call p j site args v ∷ l) (λ a m. IsPast fits a × Leaves m (if b then called q site v held l else NoCall))
+    go : (b : Bool) → (nat_eq p.0 q && nat_eq j.0 k && same_kinds kinds (kinds_of args)) ≡ b
+        → ((if b then called q site v held l else NoCall) ≡ NoCall)
+        ⊎ Head (Goes q k kinds) (Call p j site args v ∷ l) (λ a m. IsPast fits a × Leaves m (if b then called q site v held l else NoCall))
     go true e =
         let x = and_both _ _ e in let y = and_both _ _ x.0 in
         inr (First (Call p j site args v) l refl (decided_by q k kinds p j site args v (eqb-true p.0 q y.0) (eqb-true j.0 k y.1) (kinds_same kinds (kinds_of args) x.1)) (tt, called_leaves q site v held l))
@@ -201,7 +213,8 @@ module _ (t : Table) (first second : List Act) where
       go x y (inr (First a m e f u)) (inr (First b n g k v)) = PartAt h.key a b m n x y e g f k u v
   two_frees q (h ∷ hs) (Free p key ∷ pre) = go (nat_eq p.0 q && nat_eq key.0 h.key) refl (two_frees q hs pre)
     where
-      go : (b : Bool) → (nat_eq p.0 q && nat_eq key.0 h.key) ≡ b → TwoFrees q pre (freed q hs (pre ++ first)) (freed q hs (pre ++ second)) → TwoFrees q (Free p key ∷ pre) (if b then freed q hs (pre ++ first) else None) (if b then freed q hs (pre ++ second) else None)
+      go : (b : Bool) → (nat_eq p.0 q && nat_eq key.0 h.key) ≡ b → TwoFrees q pre (freed q hs (pre ++ first)) (freed q hs (pre ++ second))
+          → TwoFrees q (Free p key ∷ pre) (if b then freed q hs (pre ++ first) else None) (if b then freed q hs (pre ++ second) else None)
       go true e r = frees_more q (Free p key) pre _ _ (own_low p q (and_both _ _ e).0) r
       go false e r = NoFirst None
   two_frees q (h ∷ hs) (Hold p key ty n ∷ pre) = NoFirst None
@@ -220,9 +233,11 @@ module _ (t : Table) (first second : List Act) where
   pub data TwoReads (q k : ℕ) (kinds : List Ty) (so_far pre : List Act) : Read → Read → Type 0 where
     NoCallFirst : (r : Read) → TwoReads q k kinds so_far pre NoCall r
     NoCallSecond : (r : Read) → TwoReads q k kinds so_far pre r NoCall
-    BothCalled : (site : Option BodySite) (v : Verdict) (held : List Stand) (used left : List Act) → AllByRecursion (IsBelow (suc q)) used → pre ≡ used ++ left → TwoReads q k kinds so_far pre (Called site v held (left ++ first)) (Called site v held (left ++ second))
+    BothCalled : (site : Option BodySite) (v : Verdict) (held : List Stand) (used left : List Act) → AllByRecursion (IsBelow (suc q)) used → pre ≡ used ++ left
+        → TwoReads q k kinds so_far pre (Called site v held (left ++ first)) (Called site v held (left ++ second))
     BothFull : (used left : List Act) → AllByRecursion (IsBelow (suc q)) used → pre ≡ used ++ left → TwoReads q k kinds so_far pre (FullAt (left ++ first)) (FullAt (left ++ second))
-    PartIn : (u : Question) (a b : Act) (m n : List Act) (x y : Read) → Asks q k kinds (so_far ++ pre) u → first ≡ a ∷ m → second ≡ b ∷ n → Answers u a → Answers u b → Leaves m x → Leaves n y → GoesPast t u (so_far ++ pre) a → GoesPast t u (so_far ++ pre) b → TwoReads q k kinds so_far pre x y
+    PartIn : (u : Question) (a b : Act) (m n : List Act) (x y : Read) → Asks q k kinds (so_far ++ pre) u → first ≡ a ∷ m → second ≡ b ∷ n → Answers u a → Answers u b → Leaves m x → Leaves n y
+        → GoesPast t u (so_far ++ pre) a → GoesPast t u (so_far ++ pre) b → TwoReads q k kinds so_far pre x y
 
   module _ (q k : ℕ) (kinds : List Ty) where
     reads_more : (so_far pre : List Act) (c : Act) (x y : Read) → IsBelow (suc q) c → TwoReads q k kinds (so_far ++ c ∷ []) pre x y → TwoReads q k kinds so_far (c ∷ pre) x y
@@ -246,7 +261,8 @@ module _ (t : Table) (first second : List Act) where
     refused_reads so_far pre site w _ _ (NoFirst o) = NoCallFirst (refused_at site w o)
     refused_reads so_far pre site w _ _ (NoSecond o) = NoCallSecond (refused_at site w o)
     refused_reads so_far pre site w _ _ (Alike used left b e) = BothCalled site w [] used left b e
-    refused_reads so_far pre site w _ _ (PartAt j a b m n x y e f g h u v) = PartIn (Ends q j) a b m n (refused_at site w x) (refused_at site w y) (inr (inr (j, refl))) e f g h (refused_leaves m site w x u) (refused_leaves n site w y v) tt tt
+    refused_reads so_far pre site w _ _ (PartAt j a b m n x y e f g h u v) = PartIn (Ends q j) a b m n (refused_at site w x) (refused_at site w y) (inr (inr (j, refl))) e f g h
+        (refused_leaves m site w x u) (refused_leaves n site w y v) tt tt
 
     called_reads : (so_far pre : List Act) (site : Option BodySite) (w : Verdict) (held : List Stand) → TwoReads q k kinds so_far pre (called q site w held (pre ++ first)) (called q site w held (pre ++ second))
     called_reads so_far pre site (verdict.Enter way) held = BothCalled site (verdict.Enter way) held [] pre tt refl
@@ -290,28 +306,36 @@ module _ (t : Table) (first second : List Act) where
     still (Define j site ∷ l) c so = refl
     still (WornDef j ∷ l) c so = refl
 
-    two_decisions : (fits : Bool) (held : List Stand) (so_far pre : List Act) → 1 ≤ count_of k held → IsSoFar q k so_far → fits ≡ first_takes t kinds so_far → TwoReads q k kinds so_far pre (decision fits q k kinds held (pre ++ first)) (decision fits q k kinds held (pre ++ second))
+    two_decisions : (fits : Bool) (held : List Stand) (so_far pre : List Act) → 1 ≤ count_of k held → IsSoFar q k so_far → fits ≡ first_takes t kinds so_far
+        → TwoReads q k kinds so_far pre (decision fits q k kinds held (pre ++ first)) (decision fits q k kinds held (pre ++ second))
     unfolding Asks
     two_decisions fits held so_far [] has so ok = go (decision fits q k kinds held first) (decision fits q k kinds held second) (decision_head fits q k kinds held first has) (decision_head fits q k kinds held second has)
       where
         known : fits ≡ first_takes t kinds (so_far ++ [])
         known = ok ∙ ap (first_takes t kinds) (sym (append-nil so_far))
 
-        go : (x y : Read) → (x ≡ NoCall) ⊎ Head (Goes q k kinds) first (λ a m. IsPast fits a × Leaves m x) → (y ≡ NoCall) ⊎ Head (Goes q k kinds) second (λ a m. IsPast fits a × Leaves m y) → TwoReads q k kinds so_far [] x y
+        go : (x y : Read) → (x ≡ NoCall) ⊎ Head (Goes q k kinds) first (λ a m. IsPast fits a × Leaves m x) → (y ≡ NoCall) ⊎ Head (Goes q k kinds) second (λ a m. IsPast fits a × Leaves m y)
+            → TwoReads q k kinds so_far [] x y
         go x y (inl e) r = subst (λ o. TwoReads q k kinds so_far [] o y) (sym e) (NoCallFirst y)
         go x y (inr f) (inl e) = subst (λ o. TwoReads q k kinds so_far [] x o) (sym e) (NoCallSecond x)
-        go x y (inr (First a m e f u)) (inr (First b n g h v)) = PartIn (Goes q k kinds) a b m n x y (inr (inl (refl, subst (IsSoFar q k) (sym (append-nil so_far)) so))) e g f h u.1 v.1 (subst (λ (d : Bool). IsPast d a) known u.0) (subst (λ (d : Bool). IsPast d b) known v.0)
+        go x y (inr (First a m e f u)) (inr (First b n g h v)) = PartIn (Goes q k kinds) a b m n x y (inr (inl (refl, subst (IsSoFar q k) (sym (append-nil so_far)) so))) e g f h u.1 v.1
+            (subst (λ (d : Bool). IsPast d a) known u.0) (subst (λ (d : Bool). IsPast d b) known v.0)
     two_decisions fits held so_far (Hold p j ty n ∷ pre) has so ok = reads_if so_far (Hold p j ty n ∷ pre) (fits && nat_eq p.0 q) _ _ (λ both. let e = (and_both _ _ both).1 in
-        reads_more so_far pre (Hold p j ty n) _ _ (own_low p q e) (two_decisions fits (held ++ record { key = j.0; ty = ty; changes = n } ∷ []) (so_far ++ Hold p j ty n ∷ []) pre (has_last held (record { key = j.0; ty = ty; changes = n }) has) (so_far_more so_far (Hold p j ty n) so (eqb-true p.0 q e)) (ok ∙ still so_far (Hold p j ty n) so)))
+        reads_more so_far pre (Hold p j ty n) _ _ (own_low p q e)
+        (two_decisions fits (held ++ record { key = j.0; ty = ty; changes = n } ∷ []) (so_far ++ Hold p j ty n ∷ []) pre (has_last held (record { key = j.0; ty = ty; changes = n }) has)
+        (so_far_more so_far (Hold p j ty n) so (eqb-true p.0 q e)) (ok ∙ still so_far (Hold p j ty n) so)))
     two_decisions fits held so_far (Free p j ∷ pre) has so ok = reads_if so_far (Free p j ∷ pre) (fits && nat_eq p.0 q) _ _ (λ both. let e = (and_both _ _ both).1 in go (own_low p q e) (nat_eq j.0 k) refl
-        (two_frees q held (Free p j ∷ pre)) (λ apart. two_decisions fits (all_but j.0 held) (so_far ++ Free p j ∷ []) pre (has_but j.0 held apart has) (so_far_more so_far (Free p j) so (eqb-true p.0 q e, apart)) (ok ∙ still so_far (Free p j) so)))
+        (two_frees q held (Free p j ∷ pre)) (λ apart. two_decisions fits (all_but j.0 held) (so_far ++ Free p j ∷ []) pre (has_but j.0 held apart has)
+        (so_far_more so_far (Free p j) so (eqb-true p.0 q e, apart)) (ok ∙ still so_far (Free p j) so)))
       where
         go : p.0 < suc q → (b : Bool) → nat_eq j.0 k ≡ b → TwoFrees q (Free p j ∷ pre) (freed q held (Free p j ∷ (pre ++ first))) (freed q held (Free p j ∷ (pre ++ second)))
             → (nat_eq j.0 k ≡ false → TwoReads q k kinds (so_far ++ Free p j ∷ []) pre (decision fits q k kinds (all_but j.0 held) (pre ++ first)) (decision fits q k kinds (all_but j.0 held) (pre ++ second)))
-            → TwoReads q k kinds so_far (Free p j ∷ pre) (if b then full_at (freed q held (Free p j ∷ (pre ++ first))) else decision fits q k kinds (all_but j.0 held) (pre ++ first)) (if b then full_at (freed q held (Free p j ∷ (pre ++ second))) else decision fits q k kinds (all_but j.0 held) (pre ++ second))
+            → TwoReads q k kinds so_far (Free p j ∷ pre) (if b then full_at (freed q held (Free p j ∷ (pre ++ first))) else decision fits q k kinds (all_but j.0 held) (pre ++ first))
+            (if b then full_at (freed q held (Free p j ∷ (pre ++ second))) else decision fits q k kinds (all_but j.0 held) (pre ++ second))
         go low true e r more = full_reads so_far (Free p j ∷ pre) _ _ r
         go low false e r more = reads_more so_far pre (Free p j) _ _ low (more e)
-    two_decisions fits held so_far (Call p j site args v ∷ pre) has so ok = reads_if so_far (Call p j site args v ∷ pre) (nat_eq p.0 q && nat_eq j.0 k && same_kinds kinds (kinds_of args)) _ _ (λ e. reads_more so_far pre (Call p j site args v) _ _ (own_low p q (and_both _ _ (and_both _ _ e).0).0) (called_reads (so_far ++ Call p j site args v ∷ []) pre site v held))
+    two_decisions fits held so_far (Call p j site args v ∷ pre) has so ok = reads_if so_far (Call p j site args v ∷ pre) (nat_eq p.0 q && nat_eq j.0 k && same_kinds kinds (kinds_of args)) _ _
+        (λ e. reads_more so_far pre (Call p j site args v) _ _ (own_low p q (and_both _ _ (and_both _ _ e).0).0) (called_reads (so_far ++ Call p j site args v ∷ []) pre site v held))
     two_decisions fits held so_far (Retype j site ∷ pre) has so ok = NoCallFirst NoCall
     two_decisions fits held so_far (Busy j pins ∷ pre) has so ok = NoCallFirst NoCall
     two_decisions fits held so_far (WornType j ∷ pre) has so ok = NoCallFirst NoCall
@@ -325,7 +349,8 @@ module _ (t : Table) (first second : List Act) where
       where
         go : (b : Bool) → (nat_eq p.0 q && nat_eq j.0 k) ≡ b → ((if b then decision (takes_at t ty kinds) q k kinds (record { key = j.0; ty = ty; changes = n } ∷ []) l else NoCall) ≡ NoCall)
             ⊎ Head (Starts q k) (Hold p j ty n ∷ l) (λ a m. Leaves m (if b then decision (takes_at t ty kinds) q k kinds (record { key = j.0; ty = ty; changes = n } ∷ []) l else NoCall))
-        go true e = inr (First (Hold p j ty n) l refl (starts q k p j ty n (eqb-true p.0 q (and_both _ _ e).0) (eqb-true j.0 k (and_both _ _ e).1)) (decision_leaves (takes_at t ty kinds) q k kinds (record { key = j.0; ty = ty; changes = n } ∷ []) l))
+        go true e = inr (First (Hold p j ty n) l refl (starts q k p j ty n (eqb-true p.0 q (and_both _ _ e).0) (eqb-true j.0 k (and_both _ _ e).1))
+            (decision_leaves (takes_at t ty kinds) q k kinds (record { key = j.0; ty = ty; changes = n } ∷ []) l))
         go false e = inl refl
     start_head (Free p j ∷ l) = inl refl
     start_head (Call p j site args v ∷ l) = inl refl
@@ -344,7 +369,9 @@ module _ (t : Table) (first second : List Act) where
         go x y (inr f) (inl e) = subst (λ o. TwoReads q k kinds [] [] x o) (sym e) (NoCallSecond x)
         go x y (inr (First a m e f u)) (inr (First b n g h v)) = PartIn (Starts q k) a b m n x y (inl (refl, refl)) e g f h u v tt tt
     two_calls (Hold p j ty n ∷ pre) = reads_if [] (Hold p j ty n ∷ pre) (nat_eq p.0 q && nat_eq j.0 k) _ _ (λ both. let f = (and_both _ _ both).0 in let e = (and_both _ _ both).1 in
-        reads_more [] pre (Hold p j ty n) _ _ (own_low p q f) (two_decisions (takes_at t ty kinds) (record { key = j.0; ty = ty; changes = n } ∷ []) (Hold p j ty n ∷ []) pre (here j.0 (sym (eqb-true j.0 k e))) (starts q k p j ty n (eqb-true p.0 q f) (eqb-true j.0 k e), tt) refl))
+        reads_more [] pre (Hold p j ty n) _ _ (own_low p q f)
+        (two_decisions (takes_at t ty kinds) (record { key = j.0; ty = ty; changes = n } ∷ []) (Hold p j ty n ∷ []) pre (here j.0 (sym (eqb-true j.0 k e)))
+        (starts q k p j ty n (eqb-true p.0 q f) (eqb-true j.0 k e), tt) refl))
       where
         here : (i : ℕ) → k ≡ i → 1 ≤ cond (eqb k i) 1 0 + 0
         here i e = let same = eq-eqb k i e in rw same (omega arith)

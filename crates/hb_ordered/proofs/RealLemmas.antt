@@ -62,7 +62,8 @@ find cs (x ∷ us) bs rest u e = go (among x.caller cs) refl bs e (λ l. find cs
     kept b f l = ap (λ (d : Bool). if d then x ∷ only cs l else only cs l) f
 
     go : (b : Bool) → among x.caller cs ≡ b → (bs : List Taken) → (if b then x ∷ only cs us else only cs us) ≡ bs ++ u ∷ rest
-        → ((l : List Taken) → only cs us ≡ l ++ u ∷ rest → (before : List Taken) × (after : List Taken) × (us ≡ before ++ u ∷ after) × (only cs before ≡ l)) → (before : List Taken) × (after : List Taken) × (x ∷ us ≡ before ++ u ∷ after) × (only cs before ≡ bs)
+        → ((l : List Taken) → only cs us ≡ l ++ u ∷ rest → (before : List Taken) × (after : List Taken) × (us ≡ before ++ u ∷ after) × (only cs before ≡ l))
+        → (before : List Taken) × (after : List Taken) × (x ∷ us ≡ before ++ u ∷ after) × (only cs before ≡ bs)
     go true f [] e more = ([], us, (let h : x ≡ u = cc e in ap (λ z. z ∷ us) h), refl)
     go true f (b ∷ bs) e more =
         let tail : only cs us ≡ bs ++ u ∷ rest = cc e in
@@ -78,7 +79,8 @@ numbers_only cs us all bs rest u e =
     let same : turns_by u.caller f.0 ≡ turns_by u.caller bs = sym (turns_real cs u.caller real f.0) ∙ ap (turns_by u.caller) f.3 in
     elim (all f.0 f.1 u f.2) [ inl h ↦ inl (h ∙ ap (λ n. n + 1) same) | inr h ↦ inr (h.0, sym same ∙ h.1) ]
 
-pub tagged_only : (t : Table) (names : List Name) (steps : ℕ) (log : List Entry) (us : List Taken) (cs ds : List ℕ) → ((d : ℕ) → among d ds ≡ true → among d cs ≡ true) → AreTagged t names steps log us ds → AreTagged t names steps log (only cs us) ds
+pub tagged_only : (t : Table) (names : List Name) (steps : ℕ) (log : List Entry) (us : List Taken) (cs ds : List ℕ) → ((d : ℕ) → among d ds ≡ true → among d cs ≡ true)
+    → AreTagged t names steps log us ds → AreTagged t names steps log (only cs us) ds
 tagged_only t names steps log us cs [] inside h = tt
 tagged_only t names steps log us cs (d ∷ ds) inside h = (one (inside d (let same = eq-eqb d d refl in rw same refl)) h.0, tagged_only t names steps log us cs ds (λ e k. inside e (more e (eqb e d) k)) h.1)
   where
@@ -120,7 +122,8 @@ module _ (cs : List ℕ) where
   sift_left left [] inside = refl
   sift_left left (d ∷ ds) inside =
       let real : among d cs ≡ true = inside d (let same = eq-eqb d d refl in rw same refl) in
-      sift_many (left d) d (turns_left left ds) real ∙ ap (λ l. replicate (left d) d ++ l) (sift_left left ds (λ e k. inside e (more e (eqb e d) k))) ∙ ap (λ n. replicate n d ++ turns_left (kept_for cs left) ds) (sym (kept_in left d real))
+      sift_many (left d) d (turns_left left ds) real ∙ ap (λ l. replicate (left d) d ++ l) (sift_left left ds (λ e k. inside e (more e (eqb e d) k)))
+      ∙ ap (λ n. replicate n d ++ turns_left (kept_for cs left) ds) (sym (kept_in left d real))
     where
       more : (e : ℕ) (b : Bool) → among e ds ≡ true → (if b then true else among e ds) ≡ true
       more e true k = refl
@@ -156,7 +159,8 @@ module _ (cs : List ℕ) where
       still true e = e
       still false e = refl
 
-      go : (b : Bool) → among c cs ≡ b → left c ≢ 0 → sift cs (turn_order order (less c left) cs) ≡ turn_order order (kept_for cs (less c left)) cs → sift cs (turn_order (c ∷ order) left cs) ≡ turn_order (c ∷ order) (kept_for cs left) cs
+      go : (b : Bool) → among c cs ≡ b → left c ≢ 0 → sift cs (turn_order order (less c left) cs) ≡ turn_order order (kept_for cs (less c left)) cs
+          → sift cs (turn_order (c ∷ order) left cs) ≡ turn_order (c ∷ order) (kept_for cs left) cs
       go true e some more =
           ap (sift cs) (takes c order left cs some) ∙ sift_in c (turn_order order (less c left) cs) e ∙ ap (λ l. c ∷ l) (more ∙ ap (λ f. turn_order order f cs) (λ i. λ d. less_in c left e d i))
           ∙ sym (takes c order (kept_for cs left) cs (λ z. some (sym (kept_in left c e) ∙ z)))
@@ -168,7 +172,9 @@ module _ (cs : List ℕ) where
   map_only [] = refl
   map_only (u ∷ us) = go (among u.caller cs) (map_only us)
     where
-      go : (b : Bool) → map (λ (u : Taken). u.caller) (only cs us) ≡ sift cs (map (λ (u : Taken). u.caller) us) → map (λ (u : Taken). u.caller) (if b then u ∷ only cs us else only cs us) ≡ (if b then u.caller ∷ sift cs (map (λ (u : Taken). u.caller) us) else sift cs (map (λ (u : Taken). u.caller) us))
+      go : (b : Bool) → map (λ (u : Taken). u.caller) (only cs us) ≡ sift cs (map (λ (u : Taken). u.caller) us)
+          → map (λ (u : Taken). u.caller) (if b then u ∷ only cs us else only cs us) ≡
+          (if b then u.caller ∷ sift cs (map (λ (u : Taken). u.caller) us) else sift cs (map (λ (u : Taken). u.caller) us))
       go true h = ap (λ l. u.caller ∷ l) h
       go false h = h
 
@@ -179,5 +185,6 @@ module _ (cs : List ℕ) where
       go true e = sym (turns_real cs c e us)
       go false e = sym (none_there c cs (only cs us) e (only_among cs us))
 
-  pub order_only : (order : List ℕ) (us : List Taken) → map (λ (u : Taken). u.caller) us ≡ turn_order order (λ d. turns_by d us) cs → map (λ (u : Taken). u.caller) (only cs us) ≡ turn_order order (λ d. turns_by d (only cs us)) cs
+  pub order_only : (order : List ℕ) (us : List Taken) → map (λ (u : Taken). u.caller) us ≡ turn_order order (λ d. turns_by d us) cs
+      → map (λ (u : Taken). u.caller) (only cs us) ≡ turn_order order (λ d. turns_by d (only cs us)) cs
   order_only order us e = map_only us ∙ ap (sift cs) e ∙ sift_order order (λ d. turns_by d us) ∙ ap (λ f. turn_order order f cs) (λ i. λ d. kept_turns us d i)

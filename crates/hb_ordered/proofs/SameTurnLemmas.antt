@@ -37,11 +37,11 @@ head_is : (g n : ℕ) (rd A rest tail all : List (ℕ × Act)) (since P : List A
     → (rd ++ tagged g since ≡ A ++ tagged n P) × ((g, a) ∷ tail ≡ rest)
 head_is g n rd A rest tail all since P a m e f =
     let plains : plain (rd ++ tagged g since) ≡ plain (A ++ tagged n P) =
-        map-append (λ (e : ℕ × Act). e.1) rd (tagged g since) ∙ ap (λ l. plain rd ++ l) (untagged g since) ∙ m
-        ∙ ap (λ l. plain A ++ l) (sym (untagged n P)) ∙ sym (map-append (λ (e : ℕ × Act). e.1) A (tagged n P)) in
+    map-append (λ (e : ℕ × Act). e.1) rd (tagged g since) ∙ ap (λ l. plain rd ++ l) (untagged g since) ∙ m
+    ∙ ap (λ l. plain A ++ l) (sym (untagged n P)) ∙ sym (map-append (λ (e : ℕ × Act). e.1) A (tagged n P)) in
     let whole : (rd ++ tagged g since) ++ ((g, a) ∷ tail) ≡ (A ++ tagged n P) ++ rest =
-        sym (append_assoc (rd ++ tagged g since) ((g, a) ∷ []) tail)
-        ∙ ap (λ l. l ++ tail) (append_assoc rd (tagged g since) ((g, a) ∷ []) ∙ ap (λ l. rd ++ l) (sym (tagged_append g since (a ∷ [])))) ∙ e ∙ f in
+    sym (append_assoc (rd ++ tagged g since) ((g, a) ∷ []) tail)
+    ∙ ap (λ l. l ++ tail) (append_assoc rd (tagged g since) ((g, a) ∷ []) ∙ ap (λ l. rd ++ l) (sym (tagged_append g since (a ∷ [])))) ∙ e ∙ f in
     same_cut (rd ++ tagged g since) (A ++ tagged n P) ((g, a) ∷ tail) rest plains whole
 
 -- acts with the turn's number, behind others that have lower ones, are of the turn
@@ -74,11 +74,13 @@ plain_cut n A R P X =
     ∙ ap (λ l. plain A ++ l) (map-append (λ (e : ℕ × Act). e.1) (tagged n (P ++ X)) R ∙ ap (λ l. l ++ plain R) (untagged n (P ++ X)) ∙ append_assoc P X (plain R))
     ∙ sym (append_assoc (plain A) P (X ++ plain R))
 
-module _ (t : Table) (names : List Name) (block steps : ℕ) (r w : Run) (reads : script_run t names (call_in t names 4096) block steps (plain r.acts) ≡ Some r) (wreads : script_run t names (call_in t names 4096) block steps (plain w.acts) ≡ Some w)
+module _ (t : Table) (names : List Name) (block steps : ℕ) (r w : Run) (reads : script_run t names (call_in t names 4096) block steps (plain r.acts) ≡ Some r)
+    (wreads : script_run t names (call_in t names 4096) block steps (plain w.acts) ≡ Some w)
     (A B R S : List (ℕ × Act)) (n m : ℕ) (before : plain A ≡ plain B) (low : TagsAre (λ i. i < n) A) (high : TagsAre (λ i. m < i) R) (over : TagsAre (λ i. n < i) S) where
   -- the next acts of both are the same, wherever both go on
   abbrev pub OneNext : List Act → List Act → Type 0
-  OneNext X Y = (P X1 Y1 early : List Act) (done first second : List Act) (p : Parting t done first second) → X ≡ P ++ p.a ∷ X1 → Y ≡ P ++ p.b ∷ Y1 → P ≡ early ++ p.since → plain p.state.read ≡ plain A ++ early → p.a ≡ p.b
+  OneNext X Y = (P X1 Y1 early : List Act) (done first second : List Act) (p : Parting t done first second) → X ≡ P ++ p.a ∷ X1 → Y ≡ P ++ p.b ∷ Y1 → P ≡ early ++ p.since
+      → plain p.state.read ≡ plain A ++ early → p.a ≡ p.b
 
   module _ (P : List Act) where
     parts : (X Y : List Act) → r.acts ≡ A ++ (tagged n (P ++ X) ++ R) → w.acts ≡ B ++ (tagged m (P ++ Y) ++ S) → ((X ++ plain R ≡ []) × (Y ++ plain S ≡ [])) ⊎ Part t (plain A ++ P) (X ++ plain R) (Y ++ plain S) r w

@@ -18,7 +18,8 @@ pub acts_of : (c : ℕ) (us vs : List Taken) → acts_by c (us ++ vs) ≡ acts_b
 acts_of c [] vs = refl
 acts_of c (u ∷ us) vs = go (eqb c u.caller) (acts_of c us vs)
   where
-    go : (b : Bool) → acts_by c (us ++ vs) ≡ acts_by c us ++ acts_by c vs → cond b (tagged u.begun u.acts ++ acts_by c (us ++ vs)) (acts_by c (us ++ vs)) ≡ cond b (tagged u.begun u.acts ++ acts_by c us) (acts_by c us) ++ acts_by c vs
+    go : (b : Bool) → acts_by c (us ++ vs) ≡ acts_by c us ++ acts_by c vs
+        → cond b (tagged u.begun u.acts ++ acts_by c (us ++ vs)) (acts_by c (us ++ vs)) ≡ cond b (tagged u.begun u.acts ++ acts_by c us) (acts_by c us) ++ acts_by c vs
     go true h = ap (λ l. tagged u.begun u.acts ++ l) h ∙ sym (append_assoc (tagged u.begun u.acts) (acts_by c us) (acts_by c vs))
     go false h = h
 

@@ -83,11 +83,13 @@ module _ (t : Table) (steps : ℕ) (names : List Name) (first log : List Entry) 
 -- ── who has turns left ──
 
 -- the script's acts end where those of the other history do
-ends_alike : (t : Table) (steps : ℕ) (names : List Name) (first log log' : List Entry) (us0 ws0 us us' vs ws : List Taken) → Turned t steps names first log us0 → Turned t steps names first log' ws0 → us0 ≡ us ++ vs → ws0 ≡ us' ++ ws
+ends_alike : (t : Table) (steps : ℕ) (names : List Name) (first log log' : List Entry) (us0 ws0 us us' vs ws : List Taken) → Turned t steps names first log us0
+    → Turned t steps names first log' ws0 → us0 ≡ us ++ vs → ws0 ≡ us' ++ ws
     → (c : ℕ) → turns_by c us ≡ turns_by c us' → plain (acts_by c us) ≡ plain (acts_by c us') → among c (callers_from 1 t.scripts) ≡ true → turns_by c vs ≡ 0 → turns_by c ws ≡ 0
 ends_alike t steps names first log log' us0 ws0 us us' vs ws a b eu ew c turns acts_are real none = go [] refl (runs_part t (plain (acts_by c us)) [] (plain (acts_by c ws)) names 4096 x.block.0 steps x.run y.run
     (ap (λ l. script_run t names (call_in t names 4096) x.block.0 steps l) (append-nil (plain (acts_by c us)) ∙ sym mine) ∙ x.reads)
-    (ap (λ n. script_run t names (call_in t names 4096) n.0 steps ((plain (acts_by c us)) ++ (plain (acts_by c ws)))) blocks ∙ ap (λ l. script_run t names (call_in t names 4096) y.block.0 steps l) (sym others) ∙ y.reads))
+    (ap (λ n. script_run t names (call_in t names 4096) n.0 steps ((plain (acts_by c us)) ++ (plain (acts_by c ws)))) blocks
+    ∙ ap (λ l. script_run t names (call_in t names 4096) y.block.0 steps l) (sym others) ∙ y.reads))
   where
     x : IsTagged t names steps log us0 c
     x = tagged_at t names steps log us0 (callers_from 1 t.scripts) c a.tagged real
@@ -102,13 +104,14 @@ ends_alike t steps names first log log' us0 ws0 us us' vs ws a b eu ew c turns a
     mine = journal_is t steps names first log us0 a c real ∙ ap (λ l. plain (acts_by c l)) eu ∙ ap plain (acts_of c us vs) ∙ ap (λ l. plain (acts_by c us ++ l)) (no_acts c vs none) ∙ ap plain (append-nil (acts_by c us))
 
     others : acts c log' ≡ (plain (acts_by c us)) ++ (plain (acts_by c ws))
-    others = journal_is t steps names first log' ws0 b c real ∙ ap (λ l. plain (acts_by c l)) ew ∙ ap plain (acts_of c us' ws) ∙ map-append (λ (e : ℕ × Act). e.1) (acts_by c us') (acts_by c ws) ∙ ap (λ l. l ++ (plain (acts_by c ws))) (sym acts_are)
+    others = journal_is t steps names first log' ws0 b c real ∙ ap (λ l. plain (acts_by c l)) ew ∙ ap plain (acts_of c us' ws) ∙ map-append (λ (e : ℕ × Act). e.1) (acts_by c us') (acts_by c ws)
+        ∙ ap (λ l. l ++ (plain (acts_by c ws))) (sym acts_are)
 
     counted : (plain (acts_by c ws)) ≡ [] → turns_by c ws ≡ 0
     counted e =
         let same : acts c log ≡ acts c log' = mine ∙ sym (append-nil (plain (acts_by c us))) ∙ ap (λ l. (plain (acts_by c us)) ++ l) (sym e) ∙ sym others in
         let run : x.run ≡ y.run = same_Some x.run y.run (sym x.reads ∙ ap (λ l. script_run t names (call_in t names 4096) x.block.0 steps l) same
-            ∙ ap (λ (n : NodeId). script_run t names (call_in t names 4096) n.0 steps (acts c log')) blocks ∙ y.reads) in
+        ∙ ap (λ (n : NodeId). script_run t names (call_in t names 4096) n.0 steps (acts c log')) blocks ∙ y.reads) in
         let begun : turns_by c us0 ≡ turns_by c ws0 = x.many ∙ ap (λ (z : Run). turns_for z.begun) run ∙ sym y.many in
         let one : turns_by c us0 ≡ turns_by c us + turns_by c vs = ap (turns_by c) eu ∙ turns_of c us vs in
         let two : turns_by c ws0 ≡ turns_by c us' + turns_by c ws = ap (turns_by c) ew ∙ turns_of c us' ws in
@@ -118,7 +121,8 @@ ends_alike t steps names first log log' us0 ws0 us us' vs ws a b eu ew c turns a
     go f e (inl h) = counted h.1
     go f e (inr p) = absurd (let h : [] ≡ p.0.a ∷ p.0.behind_a = sym e ∙ p.0.is_a in cc h)
 
-none_left : (t : Table) (steps : ℕ) (names : List Name) (first log log' : List Entry) (us0 ws0 us us' vs ws : List Taken) → Turned t steps names first log us0 → Turned t steps names first log' ws0 → us0 ≡ us ++ vs → ws0 ≡ us' ++ ws
+none_left : (t : Table) (steps : ℕ) (names : List Name) (first log log' : List Entry) (us0 ws0 us us' vs ws : List Taken) → Turned t steps names first log us0
+    → Turned t steps names first log' ws0 → us0 ≡ us ++ vs → ws0 ≡ us' ++ ws
     → ((c : ℕ) → turns_by c us ≡ turns_by c us') → ((c : ℕ) → plain (acts_by c us) ≡ plain (acts_by c us')) → (c : ℕ) → turns_by c vs ≡ 0 → turns_by c ws ≡ 0
 none_left t steps names first log log' us0 ws0 us us' vs ws a b eu ew turns acts_are c none = go (among c (callers_from 1 t.scripts)) refl
   where
@@ -132,7 +136,8 @@ next_by : (c : ℕ) (u : Taken) (us : List Taken) → u.caller ≡ c → acts_by
 next_by c u us e = let same = eq-eqb c u.caller (sym e) in rw same refl
 
 -- the entries of a caller, up to an act and behind it
-pub entries_cut : (c : ℕ) (Z rest : List Entry) (early since later : List Act) (x : Act) → Z ++ (entries_by c ((early ++ since) ++ x ∷ later) ++ rest) ≡ ((Z ++ entries_by c early) ++ entries_by c since) ++ entry c x ∷ (entries_by c later ++ rest)
+pub entries_cut : (c : ℕ) (Z rest : List Entry) (early since later : List Act) (x : Act)
+    → Z ++ (entries_by c ((early ++ since) ++ x ∷ later) ++ rest) ≡ ((Z ++ entries_by c early) ++ entries_by c since) ++ entry c x ∷ (entries_by c later ++ rest)
 entries_cut c Z rest early since later x =
     ap (λ l. Z ++ (l ++ rest)) (by_join c (early ++ since) (x ∷ later) ∙ ap (λ l. l ++ entries_by c (x ∷ later)) (by_join c early since))
     ∙ ap (λ l. Z ++ l) (append_assoc (entries_by c early ++ entries_by c since) (entries_by c (x ∷ later)) rest ∙ append_assoc (entries_by c early) (entries_by c since) (entry c x ∷ (entries_by c later ++ rest)))
@@ -145,7 +150,8 @@ GoOnAlike t log log' = (c : ℕ) (before rest rest' : List Entry) (done first se
     → log ≡ (before ++ entries_by c p.since) ++ entry c p.a ∷ rest → log' ≡ (before ++ entries_by c p.since) ++ entry c p.b ∷ rest' → p.a ≡ p.b
 
 -- the turns of a history behind these and one more
-at_turn : (first log : List Entry) (us0 us vs : List Taken) (v : Taken) (c : ℕ) (early since later P : List Act) (x : Act) → log ≡ first ++ entries_of us0 → us0 ≡ us ++ v ∷ vs → v.caller ≡ c → v.acts ≡ P ++ x ∷ later → P ≡ early ++ since
+at_turn : (first log : List Entry) (us0 us vs : List Taken) (v : Taken) (c : ℕ) (early since later P : List Act) (x : Act) → log ≡ first ++ entries_of us0 → us0 ≡ us ++ v ∷ vs → v.caller ≡ c
+    → v.acts ≡ P ++ x ∷ later → P ≡ early ++ since
     → log ≡ (((first ++ entries_of us) ++ entries_by c early) ++ entries_by c since) ++ entry c x ∷ (entries_by c later ++ entries_of vs)
 at_turn first log us0 us vs v c early since later P x is eu mine e f =
     is ∙ ap (λ l. first ++ entries_of l) eu ∙ ap (λ l. first ++ l) (entries_join us (v ∷ vs)) ∙ sym (append_assoc first (entries_of us) (entries_by v.caller v.acts ++ entries_of vs))
@@ -153,13 +159,15 @@ at_turn first log us0 us vs v c early since later P x is eu mine e f =
     ∙ ap (λ l. (first ++ entries_of us) ++ (entries_by c l ++ entries_of vs)) (e ∙ ap (λ l. l ++ x ∷ later) f)
     ∙ entries_cut c (first ++ entries_of us) (entries_of vs) early since later x
 
-module _ (t : Table) (steps : ℕ) (names : List Name) (first log log' : List Entry) (us0 ws0 : List Taken) (a : Turned t steps names first log us0) (b : Turned t steps names first log' ws0) (alike : GoOnAlike t log log') where
+module _ (t : Table) (steps : ℕ) (names : List Name) (first log log' : List Entry) (us0 ws0 : List Taken) (a : Turned t steps names first log us0) (b : Turned t steps names first log' ws0)
+    (alike : GoOnAlike t log log') where
   -- the next turns of one caller have the same acts
   same_turn : (us us' vs ws : List Taken) (v w : Taken) (c : ℕ) → among c (callers_from 1 t.scripts) ≡ true → us0 ≡ us ++ v ∷ vs → ws0 ≡ us' ++ w ∷ ws → Alike us us' → v.caller ≡ c → w.caller ≡ c → v.acts ≡ w.acts
   same_turn us us' vs ws v w c real eu ew so_far mv mw =
       one_turn t names x.block.0 steps x.run y.run
       (ap (λ l. script_run t names (call_in t names 4096) x.block.0 steps l) (ap plain x.acts ∙ sym (journal_is t steps names first log us0 a c real)) ∙ x.reads)
-      (ap (λ l. script_run t names (call_in t names 4096) x.block.0 steps l) (ap plain y.acts ∙ sym (journal_is t steps names first log' ws0 b c real)) ∙ ap (λ (n : NodeId). script_run t names (call_in t names 4096) n.0 steps (acts c log')) blocks ∙ y.reads)
+      (ap (λ l. script_run t names (call_in t names 4096) x.block.0 steps l) (ap plain y.acts ∙ sym (journal_is t steps names first log' ws0 b c real))
+      ∙ ap (λ (n : NodeId). script_run t names (call_in t names 4096) n.0 steps (acts c log')) blocks ∙ y.reads)
       (acts_by c us) (acts_by c us') (acts_by c vs) (acts_by c ws) v.begun w.begun (alike_plain c us us' so_far) low high over v.acts w.acts next
       (x.acts ∙ ap (acts_by c) eu ∙ acts_of c us (v ∷ vs) ∙ ap (λ l. acts_by c us ++ l) (next_by c v vs mv))
       (y.acts ∙ ap (acts_by c) ew ∙ acts_of c us' (w ∷ ws) ∙ ap (λ l. acts_by c us' ++ l) (next_by c w ws mw))
@@ -207,16 +215,17 @@ module _ (t : Table) (steps : ℕ) (names : List Name) (first log log' : List En
           tags_weaker (turns_by c us' + 1) v.begun (omega (arith, number, count)) (acts_by c ws)
           (high_tags (us' ++ w ∷ ws) numbers' c (turns_by c us' + 1) (omega arith) (us' ++ w ∷ []) ws (sym (append_assoc us' (w ∷ []) ws)) (omega (arith, more)))
 
-      next : (P X1 Y1 early : List Act) (done first' second : List Act) (p : Parting t done first' second) → v.acts ≡ P ++ p.a ∷ X1 → w.acts ≡ P ++ p.b ∷ Y1 → P ≡ early ++ p.since → plain p.state.read ≡ plain (acts_by c us) ++ early → p.a ≡ p.b
+      next : (P X1 Y1 early : List Act) (done first' second : List Act) (p : Parting t done first' second) → v.acts ≡ P ++ p.a ∷ X1 → w.acts ≡ P ++ p.b ∷ Y1 → P ≡ early ++ p.since
+          → plain p.state.read ≡ plain (acts_by c us) ++ early → p.a ≡ p.b
       next P X1 Y1 early done first' second p ev ew' eP read =
           let Z : List Entry = first ++ entries_of us in
           let here : acts c (Z ++ entries_by c early) ≡ plain p.state.read =
-              acts_append c Z (entries_by c early) ∙ ap (λ l. acts c Z ++ l) (acts_by_itself c early)
-              ∙ ap (λ l. l ++ early) (acts_append c first (entries_of us) ∙ ap (λ l. l ++ acts c (entries_of us)) (own_idle 0 c first (not_zero c t.scripts real) a.own) ∙ acts_entries c us) ∙ sym read in
+          acts_append c Z (entries_by c early) ∙ ap (λ l. acts c Z ++ l) (acts_by_itself c early)
+          ∙ ap (λ l. l ++ early) (acts_append c first (entries_of us) ∙ ap (λ l. l ++ acts c (entries_of us)) (own_idle 0 c first (not_zero c t.scripts real) a.own) ∙ acts_entries c us) ∙ sym read in
           alike c (Z ++ entries_by c early) (entries_by c X1 ++ entries_of vs) (entries_by c Y1 ++ entries_of ws) done first' second p here
           (at_turn first log us0 us vs v c early p.since X1 P p.a a.is eu mv ev eP)
           (at_turn first log' ws0 us' ws w c early p.since Y1 P p.b b.is ew mw ew' eP
-           ∙ ap (λ l. (((first ++ l) ++ entries_by c early) ++ entries_by c p.since) ++ entry c p.b ∷ (entries_by c Y1 ++ entries_of ws)) (sym (alike_entries us us' so_far)))
+          ∙ ap (λ l. (((first ++ l) ++ entries_by c early) ++ entries_by c p.since) ++ entry c p.b ∷ (entries_by c Y1 ++ entries_of ws)) (sym (alike_entries us us' so_far)))
 
   -- what is left behind the next turn
   left_behind : (rest : List ℕ) (v : Taken) (vs : List Taken) (c : ℕ) → v.caller ≡ c → map (λ (u : Taken). u.caller) (v ∷ vs) ≡ c ∷ turn_order rest (less c (λ d. turns_by d (v ∷ vs))) (callers_from 1 t.scripts)
@@ -237,9 +246,10 @@ module _ (t : Table) (steps : ℕ) (names : List Name) (first log log' : List En
   IsRest rest vs = map (λ (u : Taken). u.caller) vs ≡ turn_order rest (λ d. turns_by d vs) (callers_from 1 t.scripts)
 
   nexts : (us us' vs ws : List Taken) (rest : List ℕ) → us0 ≡ us ++ vs → ws0 ≡ us' ++ ws → Alike us us' → HaveSameNext rest (λ d. turns_by d vs) (λ d. turns_by d ws) (callers_from 1 t.scripts)
-  nexts us us' vs ws rest eu ew so_far = next_turn rest (λ d. turns_by d vs) (λ d. turns_by d ws) t.scripts (λ d.
-      (none_left t steps names first log log' us0 ws0 us us' vs ws a b eu ew (λ c. alike_turns c us us' so_far) (λ c. alike_plain c us us' so_far) d,
-       none_left t steps names first log' log ws0 us0 us' us ws vs b a ew eu (λ c. sym (alike_turns c us us' so_far)) (λ c. sym (alike_plain c us us' so_far)) d))
+  nexts us us' vs ws rest eu ew so_far = next_turn rest (λ d. turns_by d vs) (λ d. turns_by d ws) t.scripts (λ d. (
+    none_left t steps names first log log' us0 ws0 us us' vs ws a b eu ew (λ c. alike_turns c us us' so_far) (λ c. alike_plain c us us' so_far) d,
+    none_left t steps names first log' log ws0 us0 us' us ws vs b a ew eu (λ c. sym (alike_turns c us us' so_far)) (λ c. sym (alike_plain c us us' so_far)) d,
+  ))
 
   not_empty : (rest : List ℕ) (v : Taken) (vs : List Taken) → IsRest rest (v ∷ vs) → turn_order rest (λ d. turns_by d (v ∷ vs)) (callers_from 1 t.scripts) ≡ [] → ⊥
   not_empty rest v vs o none = let e : v.caller ∷ map (λ (u : Taken). u.caller) vs ≡ [] = o ∙ none in cc e
@@ -264,10 +274,14 @@ module _ (t : Table) (steps : ℕ) (names : List Name) (first log log' : List En
         let two : w.caller ∷ map (λ (u : Taken). u.caller) ws ≡ n.0 ∷ turn_order n.1 (less n.0 (λ d. turns_by d (w ∷ ws))) (callers_from 1 t.scripts) = ow ∙ n.3 in
         let mv : v.caller ≡ n.0 = cc one in
         let mw : w.caller ≡ n.0 = cc two in
-        let real : among n.0 (callers_from 1 t.scripts) ≡ true = subst (λ d. among d (callers_from 1 t.scripts) ≡ true) mv (among_part (callers_from 1 t.scripts) us (v ∷ vs) (subst (AreAmong (callers_from 1 t.scripts)) eu a.mine)).0 in
-        let same = same_turn us us' vs ws v w n.0 real eu ew so_far mv mw in
-        (mv ∙ sym mw, same, walk (us ++ v ∷ []) (us' ++ w ∷ []) vs ws n.1 (eu ∙ sym (append_assoc us (v ∷ []) vs)) (ew ∙ sym (append_assoc us' (w ∷ []) ws)) (alike_more us us' v w so_far (mv ∙ sym mw) same)
-         (left_behind n.1 v vs n.0 mv one) (left_behind n.1 w ws n.0 mw two)))
+        let real : among n.0 (callers_from 1 t.scripts) ≡ true = subst (λ d. among d (callers_from 1 t.scripts) ≡ true) mv
+        (among_part (callers_from 1 t.scripts) us (v ∷ vs) (subst (AreAmong (callers_from 1 t.scripts)) eu a.mine)).0 in
+        let same = same_turn us us' vs ws v w n.0 real eu ew so_far mv mw in (
+          mv ∙ sym mw,
+          same,
+          walk (us ++ v ∷ []) (us' ++ w ∷ []) vs ws n.1 (eu ∙ sym (append_assoc us (v ∷ []) vs)) (ew ∙ sym (append_assoc us' (w ∷ []) ws)) (alike_more us us' v w so_far (mv ∙ sym mw) same)
+              (left_behind n.1 v vs n.0 mv one) (left_behind n.1 w ws n.0 mw two),
+        ))
   ]
 
   -- all turns of two histories of one order are alike

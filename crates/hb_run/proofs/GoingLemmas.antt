@@ -37,7 +37,8 @@ pub went_turn : (t : Table) (door later latest : Fixed) (names known more : List
     → Went t door later names known was asked log now old mid
     → ((block steps : ℕ) (done : List (ℕ × Act)) → StandsFor t known block steps done mid
     → (made : List Act) × (acts later.caller last ≡ acts later.caller now ++ made) × StandsFor t more block steps (done ++ tagged begun made) new)
-    → Stays later latest now last known more → Grown t later.caller more asked again now last → KeepsChecks t later.caller known more asked again now last mid.state.cache new.state.cache → new.caller ≡ mid.caller → keeps new ≡ keeps mid
+    → Stays later latest now last known more → Grown t later.caller more asked again now last → KeepsChecks t later.caller known more asked again now last mid.state.cache new.state.cache
+    → new.caller ≡ mid.caller → keeps new ≡ keeps mid
     → Went t door latest names more was again log last old new
 went_turn t door later latest names known more was asked again log now last old mid new begun w turn stays grown checks caller kept =
     go later w.stays.fixed w turn stays grown checks

@@ -118,7 +118,8 @@ key-below t names limit log rules legal before after e is =
     go (Hold q key ty changes) r f = r.named
     go (Free q key) r f =
         let since = holds_since e.caller.0 q key before f in
-        let earlier = rules since.before (since.after ++ e ∷ after) (entry e.caller.0 (Hold q key since.ty since.changes)) (is ∙ ap (λ l. l ++ e ∷ after) since.is ∙ append_assoc since.before (entry e.caller.0 (Hold q key since.ty since.changes) ∷ since.after) (e ∷ after)) in
+        let earlier = rules since.before (since.after ++ e ∷ after) (entry e.caller.0 (Hold q key since.ty since.changes))
+        (is ∙ ap (λ l. l ++ e ∷ after) since.is ∙ append_assoc since.before (entry e.caller.0 (Hold q key since.ty since.changes) ∷ since.after) (e ∷ after)) in
         earlier.named
     go (Retype key site) r f = r.named
     go (Busy key pins) r f = r.named

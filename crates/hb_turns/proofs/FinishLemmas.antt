@@ -27,7 +27,8 @@ use Rattle.hb_turns.specs.declared.player.Player.{Player}
 use Rattle.hb_turns.specs.Playing.{IsAt, Plays, Taken, acts_by}
 use Rattle.hb_turns.specs.Players.{AreFinished, AreOver, ArePlayers, FinishesAs, HasRun, IsPlayer}
 
-pub new_plays : (t : Table) (steps c : ℕ) (names : List Name) (log : List Entry) (m : Machine) (block : NodeId) → block_of t c ≡ Some block → m.caller.0 ≡ c → IsFineMachine t m → (m.frames.items ≡ []) × (m.state.made ≡ 0)
+pub new_plays : (t : Table) (steps c : ℕ) (names : List Name) (log : List Entry) (m : Machine) (block : NodeId) → block_of t c ≡ Some block → m.caller.0 ≡ c → IsFineMachine t m
+    → (m.frames.items ≡ []) × (m.state.made ≡ 0)
     → StandsFor t names block.0 steps [] m → acts c log ≡ [] → IsOwnCache t names names c (Some (acts c log)) log m.state.cache → Plays t steps c names log [] m
 new_plays t steps c names log m block runs mine fine fresh stands_for idle own = record {
   caller = mine;
@@ -40,7 +41,8 @@ new_plays t steps c names log m block runs mine fine fresh stands_for idle own =
   stands = stands_for;
 }
 
-pub players_push : (t : Table) (steps c : ℕ) (names : List Name) (log : List Entry) (us : List Taken) (ps : List Player) (p : Player) → ArePlayers t steps c names log us ps → IsPlayer t steps (c + length ps) names log us p → ArePlayers t steps c names log us (ps ++ p ∷ [])
+pub players_push : (t : Table) (steps c : ℕ) (names : List Name) (log : List Entry) (us : List Taken) (ps : List Player) (p : Player) → ArePlayers t steps c names log us ps
+    → IsPlayer t steps (c + length ps) names log us p → ArePlayers t steps c names log us (ps ++ p ∷ [])
 players_push t steps c names log us [] p are one = (let here : c + 0 ≡ c = omega arith in subst (λ (d : ℕ). IsPlayer t steps d names log us p) here one, tt)
 players_push t steps c names log us (q ∷ ps) p are one =
     (are.0, players_push t steps (suc c) names log us ps p are.1 (let on : c + length (q ∷ ps) ≡ suc c + length ps = omega arith in subst (λ (d : ℕ). IsPlayer t steps d names log us p) on one))
@@ -52,7 +54,8 @@ finished_push (q ∷ ps) [] p r are one = absurd are
 finished_push (q ∷ ps) (x ∷ rs) p r are one = (are.0, finished_push ps rs p r are.1 one)
 
 -- a run that a machine finishes with
-pub finish_run : (t : Table) (steps c : ℕ) (names : List Name) (log : List Entry) (done : List (ℕ × Act)) (m : Machine) (r : ScriptRun) → Plays t steps c names log done m → FinishesAs m r → HasRun t steps c names log (told_by r)
+pub finish_run : (t : Table) (steps c : ℕ) (names : List Name) (log : List Entry) (done : List (ℕ × Act)) (m : Machine) (r : ScriptRun) → Plays t steps c names log done m → FinishesAs m r
+    → HasRun t steps c names log (told_by r)
 finish_run t steps c names log done m r p finishes = record {
   block = p.block;
   runs = p.runs;
@@ -61,7 +64,8 @@ finish_run t steps c names log done m r p finishes = record {
       (ran.run, ap (λ (l : List Act). script_run t longer (call_in t longer 4096) p.block.0 steps l) p.reads ∙ ran.reads, ran.tells ∙ ap (λ (d : ℕ). told d ran.run) p.caller);
 }
 
-pub run_is : (t : Table) (steps c : ℕ) (names longer : List Name) (old new : List Entry) (r : Told) → HasRun t steps c names old r → IsPrefix names longer → length longer ≤ NAMES_MAX → acts c new ≡ acts c old → IsRunOf t longer steps new c r
+pub run_is : (t : Table) (steps c : ℕ) (names longer : List Name) (old new : List Entry) (r : Told) → HasRun t steps c names old r → IsPrefix names longer → length longer ≤ NAMES_MAX
+    → acts c new ≡ acts c old → IsRunOf t longer steps new c r
 run_is t steps c names longer old new r has more few same =
     let ran = has.run longer more few in
     record { block = has.block; runs = has.runs; run = ran.0; reads = ap (λ (l : List Act). script_run t longer (call_in t longer 4096) has.block.0 steps l) same ∙ ran.1; tells = ran.2 }
@@ -79,7 +83,8 @@ runs_are t steps c names log us (s ∷ ss) (p ∷ ps) (r ∷ rs) many few are fi
 )
 
 -- players that are over have ended
-pub ended_all : (t : Table) (steps c : ℕ) (names : List Name) (log : List Entry) (us : List Taken) (ps : List Player) → ArePlayers t steps c names log us ps → AreOver (length ps) ps → AllByRecursion (λ (p : Player). HasEnded p.machine) ps
+pub ended_all : (t : Table) (steps c : ℕ) (names : List Name) (log : List Entry) (us : List Taken) (ps : List Player) → ArePlayers t steps c names log us ps → AreOver (length ps) ps
+    → AllByRecursion (λ (p : Player). HasEnded p.machine) ps
 ended_all t steps c names log us [] are over = tt
 ended_all t steps c names log us (p ∷ ps) are over =
     (subst (λ (o : Bool). IsAt o p.machine) (over 0 p (omega arith) refl) are.0.at, ended_all t steps (suc c) names log us ps are.1 (λ i x low is. over (suc i) x (omega (arith, low)) is))

@@ -38,7 +38,13 @@ pub gone_goes : (t : Table) (limit c at : ℕ) (order rest : List ℕ) (names mi
     → HaveGone t limit order (c ∷ rest) names mid old between was ps → GoesOne t limit at mid longer between new ps now
     → HaveGone t limit order rest names longer old new was now
 gone_goes t limit c at order rest names mid longer old between new was ps now is g (inl over) =
-    let on : HaveGone t limit order rest names mid old between was ps = record { turns = g.turns; named = g.named; played = g.played; in_order = order_passes order rest (callers_from 1 t.scripts) g.turns c ps (passes_over c at ps over.0 is over.1 over.2) g.in_order; many = g.many } in
+    let on : HaveGone t limit order rest names mid old between was ps = record {
+      turns = g.turns;
+      named = g.named;
+      played = g.played;
+      in_order = order_passes order rest (callers_from 1 t.scripts) g.turns c ps (passes_over c at ps over.0 is over.1 over.2) g.in_order;
+      many = g.many;
+    } in
     subst (λ (x : List Player). HaveGone t limit order rest names longer old new was x) (sym over.3)
     (subst (λ (x : List Name). HaveGone t limit order rest names x old new was ps) (sym over.4)
     (subst (λ (x : List Entry). HaveGone t limit order rest names mid old x was ps) (sym over.5) on))

@@ -1,7 +1,7 @@
-mod PlayingLemmas
+pub mod PlayingLemmas
 mod PlayerLemmas
 mod OrderLemmas
 mod GoneLemmas
 mod FinishLemmas
-mod RunLemmas
+pub mod RunLemmas
 mod TagLemmas

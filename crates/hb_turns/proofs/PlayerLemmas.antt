@@ -67,7 +67,8 @@ player_at t steps c names log us (q ∷ ps) (suc at) p are is =
 stays_player : (t : Table) (steps c : ℕ) (u : Taken) (names longer : List Name) (old new : List Entry) (us : List Taken) (p : Player) → c ≢ u.caller → Came u.caller u.acts old new → IsPrefix names longer
     → IsPlayer t steps c names old us p → IsPlayer t steps c longer new (us ++ u ∷ []) p
 stays_player t steps c u names longer old new us p apart came more x = record {
-  plays = subst (λ (done : List (ℕ × Act)). Plays t steps c longer new done p.machine) (sym same) (plays_on t steps u.caller c u.acts names longer old new (acts_by c us) p.machine (λ is. apart (sym is)) came more x.plays);
+  plays = subst (λ (done : List (ℕ × Act)). Plays t steps c longer new done p.machine) (sym same)
+      (plays_on t steps u.caller c u.acts names longer old new (acts_by c us) p.machine (λ is. apart (sym is)) came more x.plays);
   at = x.at;
   numbered = subst (λ (n : ℕ). IsNumbered p.over p.machine.state.begun n) (sym (turn_other c us u apart)) x.numbered;
 }
@@ -82,7 +83,8 @@ stay_players t steps c u names longer old new us (p ∷ ps) below came more are 
     (stays_player t steps c u names longer old new us p (λ is. omega (arith, is, below)) came more are.0, stay_players t steps (suc c) u names longer old new us ps (omega (arith, below)) came more are.1)
 
 -- the player at a place moved, and the others stay
-pub moved_players : (t : Table) (steps c at : ℕ) (u : Taken) (names longer : List Name) (old new : List Entry) (us : List Taken) (ps : List Player) (q : Player) → u.caller ≡ c + at → at < length ps → Came u.caller u.acts old new → IsPrefix names longer
+pub moved_players : (t : Table) (steps c at : ℕ) (u : Taken) (names longer : List Name) (old new : List Entry) (us : List Taken) (ps : List Player) (q : Player) → u.caller ≡ c + at
+    → at < length ps → Came u.caller u.acts old new → IsPrefix names longer
     → IsPlayer t steps (c + at) longer new (us ++ u ∷ []) q → ArePlayers t steps c names old us ps → ArePlayers t steps c longer new (us ++ u ∷ []) (slice_set ps at q)
 moved_players t steps c at u names longer old new us [] q mine below came more x are = absurd (omega (arith, below))
 moved_players t steps c zero u names longer old new us (p ∷ ps) q mine below came more x are =
@@ -151,7 +153,8 @@ took_turn t limit first at names longer old new ps p q is below goes_on took und
         numbered = subst (λ (n : ℕ). IsNumbered q.over q.machine.state.begun n) (sym (turn_mine (first + at) us u refl)) (numbered (turns_by (first + at) us) x.numbered);
       } in
       record {
-        is = sym took.came.is ∙ ap (λ (l : List Entry). l ++ entries_by (first + at) took.more) had.is ∙ append_assoc start (entries_of us) (entries_by (first + at) took.more) ∙ ap (λ (l : List Entry). start ++ l) (sym (entries_more us u));
+        is = sym took.came.is ∙ ap (λ (l : List Entry). l ++ entries_by (first + at) took.more) had.is ∙ append_assoc start (entries_of us) (entries_by (first + at) took.more)
+            ∙ ap (λ (l : List Entry). start ++ l) (sym (entries_more us u));
         numbers = numbers_more us u had.numbers (turn_number q.over q.machine.state.begun (turns_by (first + at) us) (numbered (turns_by (first + at) us) x.numbered));
         under_way = under_way;
         players = moved_players t steps first at u names longer old new us ps q refl below took.came more moved had.players;

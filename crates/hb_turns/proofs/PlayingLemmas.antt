@@ -73,7 +73,8 @@ stands_longer : (t : Table) (names longer : List Name) (block steps : ℕ) (done
 stands_longer t names longer block steps done m more s = record { same = λ known from few journal. s.same known (prefix_more names longer known more from) few journal; counts = s.counts; journal = s.journal }
 
 -- a machine whose caller did nothing plays on
-pub plays_on : (t : Table) (steps c d : ℕ) (came : List Act) (names longer : List Name) (old new : List Entry) (done : List (ℕ × Act)) (m : Machine) → c ≢ d → Came c came old new → IsPrefix names longer → Plays t steps d names old done m → Plays t steps d longer new done m
+pub plays_on : (t : Table) (steps c d : ℕ) (came : List Act) (names longer : List Name) (old new : List Entry) (done : List (ℕ × Act)) (m : Machine) → c ≢ d → Came c came old new
+    → IsPrefix names longer → Plays t steps d names old done m → Plays t steps d longer new done m
 plays_on t steps c d came names longer old new done m apart is more p = record {
   caller = p.caller;
   block = p.block;
@@ -112,7 +113,8 @@ plays_turn t steps c begun came names longer old new done was now p is fine hold
       fine = fine;
       holding = holding;
       own = checks.own (Some []) p.own;
-      reads = came_acts c came old new is ∙ ap (λ (l : List Act). l ++ came) p.reads ∙ ap (λ (l : List Act). map (λ (e : ℕ × Act). e.1) done ++ l) (sym (untagged begun came)) ∙ sym (map-append (λ (e : ℕ × Act). e.1) done (tagged begun came));
+      reads = came_acts c came old new is ∙ ap (λ (l : List Act). l ++ came) p.reads ∙ ap (λ (l : List Act). map (λ (e : ℕ × Act). e.1) done ++ l) (sym (untagged begun came))
+          ∙ sym (map-append (λ (e : ℕ × Act). e.1) done (tagged begun came));
       stands = subst (λ (l : List Act). StandsFor t longer p.block.0 steps (done ++ tagged begun l) now) same made.2;
     }
 
@@ -121,7 +123,8 @@ plays_turn t steps c begun came names longer old new done was now p is fine hold
 every_on : (F : List Entry → Entry → Type 0) (c : ℕ) (more : List Act) (old new : List Entry) → Every F old → Came c more old new
     → ((before after : List Entry) (e : Entry) → new ≡ before ++ e ∷ after → IsPrefix old before → e.caller.0 ≡ c → F before e) → Every F new
 every_on F c more old new all came each before after e is = elim (split old (entries_by c more) before after e (came.is ∙ is)) [
-  | inl behind ↦ each before after e is behind (among (entries_by c more) (own_by c more) behind.0 (append_cancel_left old (entries_by c more) (behind.0 ++ e ∷ after) (came.is ∙ is ∙ ap (λ (l : List Entry). l ++ e ∷ after) (sym behind.1) ∙ append_assoc old behind.0 (e ∷ after))))
+  | inl behind ↦ each before after e is behind (among (entries_by c more) (own_by c more) behind.0
+      (append_cancel_left old (entries_by c more) (behind.0 ++ e ∷ after) (came.is ∙ is ∙ ap (λ (l : List Entry). l ++ e ∷ after) (sym behind.1) ∙ append_assoc old behind.0 (e ∷ after))))
   | inr within ↦ all before within.0 e within.1
 ]
   where
@@ -150,7 +153,8 @@ under_way_on t limit c more names longer old new block u legal came on few diffe
       (λ before after e is from own. subst (λ (d : ℕ). EntersBy d [] before e.act) (sym own) (entered before after e is from own));
   callers = every_on (λ before e. HasCaller t e) c more old new u.callers came (λ before after e is from own. is_some_block (block_of t e.caller.0) block (ap (block_of t) own ∙ runs));
   in_turn = every_on IsInTurn c more old new u.in_turn came
-      (λ before after e is from own zero. turn_of_own new before after e (let none : c ≡ 0 = sym own ∙ zero in subst (λ (d : ℕ). AreOwn d new) none (own_came c more old new (subst (λ (d : ℕ). AreOwn d old) (sym none) (alone none)) came)) is);
+      (λ before after e is from own zero. turn_of_own new before after e
+      (let none : c ≡ 0 = sym own ∙ zero in subst (λ (d : ℕ). AreOwn d new) none (own_came c more old new (subst (λ (d : ℕ). AreOwn d old) (sym none) (alone none)) came)) is);
   differ = differ u.differ;
   few = few u.few;
   asked = λ known from.
@@ -170,7 +174,11 @@ under_way_on t limit c more names longer old new block u legal came on few diffe
 
 -- what came through a door that was opened at this length
 pub came_through : (c : ℕ) (old new : List Entry) (kept : IsPrefix old new) → AreOwn c (drop (length old) new) → (more : List Act) × Came c more old new
-came_through c old new kept own = (map (λ (e : Entry). e.act) kept.0, record { is = ap (λ (l : List Entry). old ++ l) (sym (by_own c kept.0 (subst (AreOwn c) (gone old kept.0) (subst (λ (l : List Entry). AreOwn c (drop (length old) l)) (sym kept.1) own)))) ∙ kept.1 })
+came_through c old new kept own = (
+  map (λ (e : Entry). e.act) kept.0,
+  record
+      { is = ap (λ (l : List Entry). old ++ l) (sym (by_own c kept.0 (subst (AreOwn c) (gone old kept.0) (subst (λ (l : List Entry). AreOwn c (drop (length old) l)) (sym kept.1) own)))) ∙ kept.1 },
+)
   where
     gone : (xs ys : List Entry) → drop (length xs) (xs ++ ys) ≡ ys
     gone [] ys = refl
@@ -201,7 +209,8 @@ took_door t c names longer old new was now d front mine there came fine holding 
     Turning x log = (block steps : ℕ) (done : List (ℕ × Act)) → StandsFor t names block steps done was
         → (more : List Act) × (acts x new ≡ acts x log ++ more) × StandsFor t longer block steps (done ++ tagged now.state.begun more) now
 
-pub under_way_door : (t : Table) (limit c : ℕ) (names longer : List Name) (old new : List Entry) (block : NodeId) (cache left : List (Option Kept)) (d : ℕ) (front : List Entry) → d ≡ c → front ≡ old → IsUnderWay t limit names old
+pub under_way_door : (t : Table) (limit c : ℕ) (names longer : List Name) (old new : List Entry) (block : NodeId) (cache left : List (Option Kept)) (d : ℕ) (front : List Entry) → d ≡ c
+    → front ≡ old → IsUnderWay t limit names old
     → IsLegal limit new → (came : (more : List Act) × Came c more old new) → IsPrefix names longer → (length names ≤ NAMES_MAX → length longer ≤ NAMES_MAX) → (Differ names → Differ longer)
     → Grown t d longer names longer front new → IsOwnCache t names names c (Some []) old cache → KeepsChecks t d names longer names longer front new cache left → block_of t c ≡ Some block → (c ≡ 0 → AreOwn 0 old)
     → IsUnderWay t limit longer new

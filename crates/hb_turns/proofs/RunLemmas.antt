@@ -80,7 +80,8 @@ history_of_turns t limit steps names log rs u runs = record {
   differ = u.differ;
   few = u.few;
   keys = key-below t names limit log u.rules u.legal;
-  used = used_all names log u.differ (λ name there. in_all names name log (not_before name (in_asked_after names [] (map (λ (e : Entry). e.act) log) name (subst (λ (l : List Name). Contains l name) (u.asked names (prefix_itself names)) there))));
+  used = used_all names log u.differ (λ name there. in_all names name log
+      (not_before name (in_asked_after names [] (map (λ (e : Entry). e.act) log) name (subst (λ (l : List Name). Contains l name) (u.asked names (prefix_itself names)) there))));
   callers = u.callers;
   in_turn = u.in_turn;
   all_runs = runs;
@@ -110,12 +111,14 @@ nothing_under_way t limit = record {
     empty i e = cc e
 
 -- without a setup
-pub ordered_none : (t : Table) (limit steps : ℕ) (order : List ℕ) (names : List Name) (log : List Entry) (was now : List ScriptRun) → t.setup ≡ None → was ≡ [] → ScriptsRan t limit steps order [] names [] log was now → IsOrdered t limit steps order names log (map told_by now)
+pub ordered_none : (t : Table) (limit steps : ℕ) (order : List ℕ) (names : List Name) (log : List Entry) (was now : List ScriptRun) → t.setup ≡ None → was ≡ []
+    → ScriptsRan t limit steps order [] names [] log was now → IsOrdered t limit steps order names log (map told_by now)
 ordered_none t limit steps order names log was now none empty ran =
     let runs : now ≡ ran.more = ran.behind ∙ ap (λ (l : List ScriptRun). l ++ ran.more) empty in
     record {
       history = history_of_turns t limit steps names log (map told_by now) ran.under_way
-          (subst (λ (s : Option NodeId). AreAllRuns t names steps log s (map told_by now)) (sym none) (subst (λ (l : List ScriptRun). AreRuns t names steps log (callers_from 1 t.scripts) (map told_by l)) (sym runs) ran.runs));
+          (subst (λ (s : Option NodeId). AreAllRuns t names steps log s (map told_by now)) (sym none)
+          (subst (λ (l : List ScriptRun). AreRuns t names steps log (callers_from 1 t.scripts) (map told_by l)) (sym runs) ran.runs));
       start = [];
       setup = tt;
       turns = ran.turns;
@@ -127,7 +130,8 @@ ordered_none t limit steps order names log was now none empty ran =
     }
 
 -- behind a setup that is done
-pub ordered_done : (t : Table) (limit steps : ℕ) (order : List ℕ) (names longer : List Name) (old new : List Entry) (block : NodeId) (r : ScriptRun) (was now : List ScriptRun) → t.setup ≡ Some block → was ≡ r ∷ [] → AreOwn 0 old
+pub ordered_done : (t : Table) (limit steps : ℕ) (order : List ℕ) (names longer : List Name) (old new : List Entry) (block : NodeId) (r : ScriptRun) (was now : List ScriptRun)
+    → t.setup ≡ Some block → was ≡ r ∷ [] → AreOwn 0 old
     → HasRun t steps 0 names old (told_by r) → is_done r.outcome ≡ true → ScriptsRan t limit steps order names longer old new was now → IsOrdered t limit steps order longer new (map told_by now)
 ordered_done t limit steps order names longer old new block r was now some one own has done ran =
     let runs : now ≡ r ∷ ran.more = ran.behind ∙ ap (λ (l : List ScriptRun). l ++ ran.more) one in
@@ -148,7 +152,8 @@ ordered_done t limit steps order names longer old new block r was now some one o
     }
 
 -- behind a setup that stopped
-pub ordered_stopped : (t : Table) (limit steps : ℕ) (order : List ℕ) (names : List Name) (log : List Entry) (block : NodeId) (r : ScriptRun) (now : List ScriptRun) → t.setup ≡ Some block → now ≡ r ∷ [] → AreOwn 0 log → IsUnderWay t limit names log
+pub ordered_stopped : (t : Table) (limit steps : ℕ) (order : List ℕ) (names : List Name) (log : List Entry) (block : NodeId) (r : ScriptRun) (now : List ScriptRun) → t.setup ≡ Some block
+    → now ≡ r ∷ [] → AreOwn 0 log → IsUnderWay t limit names log
     → HasRun t steps 0 names log (told_by r) → is_done r.outcome ≡ false → IsOrdered t limit steps order names log (map told_by now)
 ordered_stopped t limit steps order names log block r now some one own u has stopped =
     let behind : RunBehind t names steps log (is_done (told_by r).outcome) [] = subst (λ (d : Bool). RunBehind t names steps log d []) (sym stopped) (refl, λ before after e is. mine log before after e own is) in

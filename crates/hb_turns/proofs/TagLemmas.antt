@@ -37,7 +37,8 @@ tagged_is t steps c names log us m r few p numbered finishes =
       many = turns_numbered m.state.begun (turns_by c us) numbered ∙ ap turns_for (sym ran.begun);
     }
 
-pub tagged_are : (t : Table) (steps c : ℕ) (names : List Name) (log : List Entry) (us : List Taken) (ss : List (NameId × NodeId)) (ps : List Player) (rs : List ScriptRun) → length ss ≡ length ps → length names ≤ NAMES_MAX
+pub tagged_are : (t : Table) (steps c : ℕ) (names : List Name) (log : List Entry) (us : List Taken) (ss : List (NameId × NodeId)) (ps : List Player) (rs : List ScriptRun) → length ss ≡ length ps
+    → length names ≤ NAMES_MAX
     → AreOver (length ps) ps → ArePlayers t steps c names log us ps → AreFinished ps rs → AreTagged t names steps log us (callers_from c ss)
 tagged_are t steps c names log us [] ps rs many few over are finished = tt
 tagged_are t steps c names log us (s ∷ ss) [] rs many few over are finished = absurd (omega (arith, many))

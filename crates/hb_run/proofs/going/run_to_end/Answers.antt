@@ -16,9 +16,19 @@ loop-share-preserved g c =
     let inv = c.loop-share.invariant in
     let came = c.in_ok-advance.ensures in
     let turned = subst (λ (turn : Turn). Turns turn c.loop-share.machine c.advance.new.self) c.in-More.is came.turn in
-    let holding = subst (λ (door : Fixed). Holding door.caller (c.advance.new.self.state.made + 1) (frames_of c.advance.new.self.frames.items) (g.D.Desk.front c.advance.new.desk)) (sym c.advance.ensures.stays.fixed) came.holding in
-    let cache = subst (λ (door : Fixed). IsTrueCache c.args.prog.now (g.N.Names.known c.advance.new.names) (g.N.Names.asked c.advance.new.names) door.caller (g.D.Desk.front c.advance.new.desk) c.advance.new.self.state.cache) (sym c.advance.ensures.stays.fixed) (came.own.own None inv.4) in
-    (came.fine, turned.0, holding, c.advance.ensures.stays.few inv.3, cache, went_turn _ _ _ _ _ _ _ _ _ _ _ _ _ _ _ _ _ inv.5 came.stands c.advance.ensures.stays came.grown came.own c.advance.ensures.caller c.advance.ensures.keeps, g.N.Names.alike_on _ _ _ inv.6 c.advance.ensures.alike)
+    let holding = subst (λ (door : Fixed). Holding door.caller (c.advance.new.self.state.made + 1) (frames_of c.advance.new.self.frames.items) (g.D.Desk.front c.advance.new.desk))
+    (sym c.advance.ensures.stays.fixed) came.holding in
+    let cache = subst (λ (door : Fixed). IsTrueCache c.args.prog.now (g.N.Names.known c.advance.new.names) (g.N.Names.asked c.advance.new.names) door.caller
+    (g.D.Desk.front c.advance.new.desk) c.advance.new.self.state.cache) (sym c.advance.ensures.stays.fixed) (came.own.own None inv.4) in (
+      came.fine,
+      turned.0,
+      holding,
+      c.advance.ensures.stays.few inv.3,
+      cache,
+      went_turn _ _ _ _ _ _ _ _ _ _ _ _ _ _ _ _ _ inv.5 came.stands c.advance.ensures.stays came.grown came.own
+          c.advance.ensures.caller c.advance.ensures.keeps,
+      g.N.Names.alike_on _ _ _ inv.6 c.advance.ensures.alike,
+    )
 
 pub returns-in-Ended-clause-went : goal.returns-in-Ended-clause-went
 returns-in-Ended-clause-went g c =

@@ -17,5 +17,6 @@ pub returns-clause-bodies : goal.returns-clause-bodies
 returns-clause-bodies c t limit steps names log runs program once h =
     each-run (StopsInBodies t) t names steps log
     (λ d r x. stops-in-bodies t names steps log d r
-    (λ y e id root stops body. c.stops_in_bodies_are_named.ensures.bodies t names limit log d h.legal (λ before after e is. (h.rules before after e is).row) program once 4096 y.block.0 steps y.run e id root y.reads stops body) x)
+    (λ y e id root stops body. c.stops_in_bodies_are_named.ensures.bodies t names limit log d h.legal
+    (λ before after e is. (h.rules before after e is).row) program once 4096 y.block.0 steps y.run e id root y.reads stops body) x)
     t.setup runs h.all_runs

@@ -5,7 +5,8 @@ use Rattle.hb_turns.proofs.GoneLemmas.{goes_on, goes_turn, lighter, over_more, o
 use Rattle.hb_turns.proofs.ordered.play_out_at.Goals as goal
 
 pub loop-alloc-smaller : goal.loop-alloc-smaller
-loop-alloc-smaller c = lighter c.args.prog.now c.loop-alloc.tables.limit c.args.at c.loop-alloc.names c.turn_at.new.names c.loop-alloc.tables.log c.turn_at.new.tables.log c.loop-alloc.players.items c.turn_at.new.players.items c.in_ok-turn_at.ensures.took
+loop-alloc-smaller c = lighter c.args.prog.now c.loop-alloc.tables.limit c.args.at c.loop-alloc.names c.turn_at.new.names c.loop-alloc.tables.log c.turn_at.new.tables.log
+    c.loop-alloc.players.items c.turn_at.new.players.items c.in_ok-turn_at.ensures.took
 
 pub loop-alloc-preserved : goal.loop-alloc-preserved
 loop-alloc-preserved c =
@@ -19,7 +20,8 @@ loop-alloc-preserved c =
       limit ∙ inv.0,
       subst (AreOver c.args.at) (sym took.moved) (over_stays c.args.at ps took.player inv.1),
       subst (λ (n : ℕ). GoOn c.args.prog.now n c.args.names.now c.turn_at.new.names c.args.tables.now.log c.turn_at.new.tables.log c.args.players.now.items c.turn_at.new.players.items) (sym limit)
-          (goes_on c.args.prog.now c.loop-alloc.tables.limit c.args.names.now c.loop-alloc.names c.turn_at.new.names c.args.tables.now.log c.loop-alloc.tables.log c.turn_at.new.tables.log c.args.players.now.items ps c.turn_at.new.players.items inv.2
+          (goes_on c.args.prog.now c.loop-alloc.tables.limit c.args.names.now c.loop-alloc.names c.turn_at.new.names c.args.tables.now.log c.loop-alloc.tables.log c.turn_at.new.tables.log
+          c.args.players.now.items ps c.turn_at.new.players.items inv.2
           (goes_turn c.args.prog.now c.loop-alloc.tables.limit c.args.at c.loop-alloc.names c.turn_at.new.names c.loop-alloc.tables.log c.turn_at.new.tables.log ps c.turn_at.new.players.items
           (omega (arith, all, many)) (omega (arith, there, many)) inv.1 took)),
     )

@@ -8,21 +8,30 @@ use Rattle.hb_turns.proofs.ordered.turn_at.Goals as goal
 pub play-requires-clause-plays : goal.play-requires-clause-plays
 play-requires-clause-plays c =
     let h = c.requires.played in
-    let there : slice_get c.args.players.now.items c.args.at ≡ Some c.index_mut-player.result.now = slice_get_read c.args.players.now.items (length c.args.players.now.items) c.args.at c.index_mut-player.result.now refl c.requires.there c.index_mut-player.ensures.value in
-    (h.0, acts_by (c.args.first + c.args.at) h.2, (player_at c.args.prog.now h.0 c.args.first c.args.names.now c.args.tables.now.log h.2 c.args.players.now.items c.args.at c.index_mut-player.result.now h.3.players there).plays)
+    let there : slice_get c.args.players.now.items c.args.at ≡ Some c.index_mut-player.result.now = slice_get_read c.args.players.now.items
+    (length c.args.players.now.items) c.args.at c.index_mut-player.result.now refl c.requires.there c.index_mut-player.ensures.value in (
+      h.0,
+      acts_by (c.args.first + c.args.at) h.2,
+      (player_at c.args.prog.now h.0 c.args.first c.args.names.now c.args.tables.now.log h.2 c.args.players.now.items c.args.at
+          c.index_mut-player.result.now h.3.players there).plays,
+    )
 
 pub play-requires-clause-at : goal.play-requires-clause-at
 play-requires-clause-at c =
     let h = c.requires.played in
-    let there : slice_get c.args.players.now.items c.args.at ≡ Some c.index_mut-player.result.now = slice_get_read c.args.players.now.items (length c.args.players.now.items) c.args.at c.index_mut-player.result.now refl c.requires.there c.index_mut-player.ensures.value in
+    let there : slice_get c.args.players.now.items c.args.at ≡ Some c.index_mut-player.result.now = slice_get_read c.args.players.now.items
+    (length c.args.players.now.items) c.args.at c.index_mut-player.result.now refl c.requires.there c.index_mut-player.ensures.value in
     (player_at c.args.prog.now h.0 c.args.first c.args.names.now c.args.tables.now.log h.2 c.args.players.now.items c.args.at c.index_mut-player.result.now h.3.players there).at
 
 pub play-requires-clause-goes_on : goal.play-requires-clause-goes_on
-play-requires-clause-goes_on c = c.requires.goes_on c.index_mut-player.result.now (slice_get_read c.args.players.now.items (length c.args.players.now.items) c.args.at c.index_mut-player.result.now refl c.requires.there c.index_mut-player.ensures.value)
+play-requires-clause-goes_on c = c.requires.goes_on c.index_mut-player.result.now
+    (slice_get_read c.args.players.now.items (length c.args.players.now.items) c.args.at c.index_mut-player.result.now refl c.requires.there c.index_mut-player.ensures.value)
 
 pub returns-clause-took : goal.returns-clause-took
 returns-clause-took c =
     let came = c.in_ok-play.ensures in
-    let there : slice_get c.args.players.now.items c.args.at ≡ Some c.index_mut-player.result.now = slice_get_read c.args.players.now.items (length c.args.players.now.items) c.args.at c.index_mut-player.result.now refl c.requires.there c.index_mut-player.ensures.value in
-    took_turn c.args.prog.now c.args.tables.now.limit c.args.first c.args.at c.args.names.now c.play.new.names c.args.tables.now.log c.play.new.tables.log c.args.players.now.items c.index_mut-player.result.now c.play.new.player
+    let there : slice_get c.args.players.now.items c.args.at ≡ Some c.index_mut-player.result.now = slice_get_read c.args.players.now.items
+    (length c.args.players.now.items) c.args.at c.index_mut-player.result.now refl c.requires.there c.index_mut-player.ensures.value in
+    took_turn c.args.prog.now c.args.tables.now.limit c.args.first c.args.at c.args.names.now c.play.new.names c.args.tables.now.log c.play.new.tables.log c.args.players.now.items
+    c.index_mut-player.result.now c.play.new.player
     there c.requires.there (c.requires.goes_on c.index_mut-player.result.now there) came.took came.under_way came.at came.numbered came.fuel came.named

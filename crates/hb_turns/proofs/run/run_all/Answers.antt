@@ -35,7 +35,8 @@ returns-in_ok-runs-in-None c =
     let limit = c.args.tables.now.limit in
     let ran : ScriptsRan t limit c.args.steps order [] c.run_scripts.new.names [] c.run_scripts.new.tables.log c.new-runs.result.items c.in_ok-runs-in-None.runs.items =
     subst (λ (l : List Entry). ScriptsRan t limit c.args.steps order [] c.run_scripts.new.names l c.run_scripts.new.tables.log c.new-runs.result.items c.in_ok-runs-in-None.runs.items) c.requires.log
-    (subst (λ (n : List Name). ScriptsRan t limit c.args.steps order n c.run_scripts.new.names c.args.tables.now.log c.run_scripts.new.tables.log c.new-runs.result.items c.in_ok-runs-in-None.runs.items) c.requires.names c.in_ok-runs-in-None.ensures.ran) in
+    (subst (λ (n : List Name). ScriptsRan t limit c.args.steps order n c.run_scripts.new.names c.args.tables.now.log c.run_scripts.new.tables.log c.new-runs.result.items
+    c.in_ok-runs-in-None.runs.items) c.requires.names c.in_ok-runs-in-None.ensures.ran) in
     record {
       ordered = ordered_none t limit c.args.steps order c.run_scripts.new.names c.run_scripts.new.tables.log c.new-runs.result.items c.in_ok-runs-in-None.runs.items
           (sym c.setup.ensures.value ∙ c.in-None.is) c.new-runs.ensures.items ran;
@@ -51,7 +52,9 @@ returns-in_ok-runs-in-Some c =
     let one : c.push.new.self.items ≡ r ∷ [] = c.in_ok-push-in-Some.ensures.items ∙ ap (λ (l : List ScriptRun). l ++ r ∷ []) c.new-runs.ensures.items in
     let done : is_done r.outcome ≡ true = search rules in
     record {
-      ordered = ordered_done t limit c.args.steps order c.run_setup.new.names c.run_scripts-in-Some.new.names c.run_setup.new.tables.log c.run_scripts-in-Some.new.tables.log c.in-Some.block r c.push.new.self.items c.in_ok-runs-in-Some.runs.items
+      ordered = ordered_done t limit c.args.steps order c.run_setup.new.names c.run_scripts-in-Some.new.names c.run_setup.new.tables.log c.run_scripts-in-Some.new.tables.log c.in-Some.block r
+          c.push.new.self.items c.in_ok-runs-in-Some.runs.items
           (sym c.setup.ensures.value ∙ c.in-Some.is) one came.own came.ran done
-          (subst (λ (n : ℕ). ScriptsRan t n c.args.steps order c.run_setup.new.names c.run_scripts-in-Some.new.names c.run_setup.new.tables.log c.run_scripts-in-Some.new.tables.log c.push.new.self.items c.in_ok-runs-in-Some.runs.items) came.limit c.in_ok-runs-in-Some.ensures.ran);
+          (subst (λ (n : ℕ). ScriptsRan t n c.args.steps order c.run_setup.new.names c.run_scripts-in-Some.new.names c.run_setup.new.tables.log c.run_scripts-in-Some.new.tables.log
+          c.push.new.self.items c.in_ok-runs-in-Some.runs.items) came.limit c.in_ok-runs-in-Some.ensures.ran);
     }

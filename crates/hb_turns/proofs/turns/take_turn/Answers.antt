@@ -24,9 +24,12 @@ returns-clause-under_way c =
     let came = c.in_ok-turn.ensures in
     let opened = c.desk-desk.ensures.tables in
     let legal : IsLegal c.args.tables.now.limit c.advance.new.desk.tables.now.log =
-    subst (λ (n : ℕ). IsLegal n c.advance.new.desk.tables.now.log) (ap (λ (x : Tables). x.limit) opened) (c.advance.ensures.stays.legal (subst (λ (x : Tables). IsLegal x.limit x.log) (sym opened) c.requires.under_way.legal)) in
+    subst (λ (n : ℕ). IsLegal n c.advance.new.desk.tables.now.log) (ap (λ (x : Tables). x.limit) opened)
+    (c.advance.ensures.stays.legal (subst (λ (x : Tables). IsLegal x.limit x.log) (sym opened) c.requires.under_way.legal)) in
     let own : AreOwn c.args.caller.0 (drop (length c.args.tables.now.log) c.advance.new.desk.tables.now.log) = search rules in
     let new = came_through c.args.caller.0 c.args.tables.now.log c.advance.new.desk.tables.now.log (subst (λ (x : Tables). IsPrefix x.log c.advance.new.desk.tables.now.log) opened c.advance.ensures.stays.kept) own in
     subst (λ (x : List Entry). IsUnderWay c.args.prog.now c.args.tables.now.limit c.advance.new.names x) (search rules)
-    (under_way_door c.args.prog.now c.args.tables.now.limit c.args.caller.0 c.args.names.now c.advance.new.names c.args.tables.now.log c.advance.new.desk.tables.now.log c.requires.plays.2.block c.args.machine.now.state.cache c.advance.new.self.state.cache _ _
-    (ap (λ (x : Tables). x.caller) opened) (ap (λ (x : Tables). x.log) opened) c.requires.under_way legal new c.advance.ensures.stays.named c.advance.ensures.stays.few c.advance.ensures.stays.differ came.grown c.requires.plays.2.own came.own c.requires.plays.2.runs c.requires.alone)
+    (under_way_door c.args.prog.now c.args.tables.now.limit c.args.caller.0 c.args.names.now c.advance.new.names c.args.tables.now.log c.advance.new.desk.tables.now.log c.requires.plays.2.block
+    c.args.machine.now.state.cache c.advance.new.self.state.cache _ _
+    (ap (λ (x : Tables). x.caller) opened) (ap (λ (x : Tables). x.log) opened) c.requires.under_way legal new c.advance.ensures.stays.named c.advance.ensures.stays.few
+    c.advance.ensures.stays.differ came.grown c.requires.plays.2.own came.own c.requires.plays.2.runs c.requires.alone)
