@@ -86,6 +86,19 @@ def commands_are_everywhere():
                 yield "completion/%s: the command %s is not there" % (file, name)
 
 
+def options_are_everywhere():
+    """Each option of a run stands in the help of hb, in the page of the manual, and in the completion of both shells."""
+    texts = {"hb help": subprocess.run([ROOT / "hb", "help"], stdout=subprocess.PIPE, check=True).stdout.decode()}
+    for file in ("man/hbird.1", "completion/hbird.bash", "completion/_hb"):
+        texts[file] = (ROOT / file).read_text().replace("\\-", "-")
+    for name in command.values():
+        for place, text in texts.items():
+            if name not in text:
+                yield "%s: the option %s is not there" % (place, name)
+    if len(command.values()) != 4:
+        yield "docs/FORMATS.md: the table of options is not found"
+
+
 def write(paper):
     """Gives each block that names a file that file's text."""
     lines, kept, skips = paper.read_text().splitlines(keepends=True), [], False
@@ -106,7 +119,7 @@ def main():
             write(paper)
         for rule in (blocks_are_files, links_lead_somewhere, examples_are_listed):
             wrong += ["%s: %s" % (paper.relative_to(ROOT), message) for message in rule(paper)]
-    wrong += [*tables_are_one(), *editors_know_all_words(), *commands_are_everywhere()]
+    wrong += [*tables_are_one(), *editors_know_all_words(), *commands_are_everywhere(), *options_are_everywhere()]
     for message in wrong:
         print(message)
     print("%d papers, %d wrong" % (len(PAPERS), len(wrong)))
