@@ -349,7 +349,8 @@ calls 0 own 0 shared 0 fresh 0
   hint: There is no `#{x}`. Instead: `"x is " ++ str(x)`.
 """)]
 
-# Of the questions of docs/LANGUAGE.md: an example, what stands there, what is written instead, and a line that comes.
+# Of the questions of docs/LANGUAGE.md: an example, what stands there, what is written instead, a line that comes, and
+# the option of the run.
 ANSWERS = [
     ("types.hb", "print box.is_small(21)", 'print box.is_small("21")', "stop BadArgs 20:11"),
     ("nil.hb", 'if name then "called " ++ name else "not called" end', '"called " ++ name', "> called tom"),
@@ -358,4 +359,7 @@ ANSWERS = [
     ("rechecked.hb", "type Shop.price : () -> Str\n", "", "stop IllTyped 11:16 Result 10:25"),
     ("makes.hb", "(polite)\n", "(polite)\n  def Parrot.learn(polite) nil end\n", "> squawk"),
     ("makes.hb", "(polite)\n", "(polite)\n  type Parrot.learn : (Bool) -> Bool\n", "stop Busy 7:3"),
+    ("turns.hb", "", "", "stop NoBody 10:13", "--order=1111"),
+    ("in_use.hb", "", "", "> true", "--order=1122"),
+    ("in_use.hb", "", "", "stop IllTyped 11:13 Result 8:18", "--order=1122"),
 ]

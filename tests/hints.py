@@ -31,9 +31,9 @@ LINES = [("text ", "BadByte BadEscape OpenText UnknownClass TwiceParam"),
 OPENERS = ("script", "setup", "def", "if", "while")
 
 
-def run(text):
+def run(text, *options):
     """The lines of the report on a text."""
-    done = subprocess.run([PROGRAM, "run"], input=text, stdout=subprocess.PIPE)
+    done = subprocess.run([PROGRAM, "run", *options], input=text, stdout=subprocess.PIPE)
     return done.stdout.decode("utf-8", "surrogateescape").splitlines()
 
 
@@ -165,9 +165,9 @@ def answers_are_true():
     """The answers of docs/LANGUAGE.md: what stands there came of the example when it was changed so."""
     paper = (ROOT / "docs/LANGUAGE.md").read_text()
     answers = paper[paper.index("## Answers to what to try"):]
-    for name, old, new, line in ANSWERS:
+    for name, old, new, line, *options in ANSWERS:
         text = (ROOT / "examples" / name).read_text()
-        lines = run(text.replace(old, new).encode())
+        lines = run(text.replace(old, new).encode(), *options)
         if old not in text or line not in lines or line.replace("> ", "") not in answers:
             yield "%s: %r is not told or did not come: %s" % (name, line, lines[-3:])
 
