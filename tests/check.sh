@@ -7,6 +7,8 @@
 # Without a word it tries the program that the launcher would run.
 set -euo pipefail
 cd "$(dirname "$0")/.."
+# A program that is named here would be run in place of each that is tried.
+unset HBIRD
 
 room=$(mktemp -d)
 trap 'kill $(jobs -p) 2>/dev/null || true; rm -rf "$room"' EXIT
