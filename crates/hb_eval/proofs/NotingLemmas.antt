@@ -1,5 +1,6 @@
 -- Notes that go on with what comes.
-use Rattle.std.proofs.Common.{◌≡◌, ℕ, List, [], ◌∷◌, ◌++◌, Bool, false, Option, Result, Ok, Err, OnOk, Vec, Global, sym, ap, ◌∙◌, subst, append_assoc}
+use Rattle.std.proofs.Common.{◌≡◌, ℕ, List, [], ◌∷◌, ◌++◌, Bool, true, false, Option, None, Some, Result, Ok, Err, OnOk, Vec, Global, sym, ap, ◌∙◌, subst, append_assoc}
+use Rattle.std.specs.Prelude.{is_some}
 use Rattle.std.proofs.lemmas.List.{append_cancel_left, map-append}
 use Rattle.hb_types.specs.declared.ids.CallerId.{CallerId}
 use Rattle.hb_tree.specs.Table.{Table}
@@ -12,8 +13,8 @@ use Rattle.hb_tables.proofs.DeskLemmas.{learns_acts}
 use Rattle.hb_tables.proofs.FrontLemmas.{adds_act}
 use Rattle.hb_names.specs.Names.{Name}
 use Rattle.hb_eval.specs.declared.machine.Machine.{Machine}
-use Rattle.hb_eval.specs.Machines.{Advances}
-use Rattle.hb_eval.specs.Noting.{HasNoted, entries}
+use Rattle.hb_eval.specs.Machines.{Advances, NotesOn, keeps}
+use Rattle.hb_eval.specs.Noting.{HasNoted, IsJournal, entries}
 use Rattle.hb_eval.specs.Staying.{Stays}
 
 -- one act comes, and is noted
@@ -98,3 +99,14 @@ advances_noted t c names known was asked past now old m new kept same a =
 pub noted_more : (caller : CallerId) (before now more : List Act) (notes : List Entry) → now ≡ before ++ more → entries caller now ≡ entries caller before ++ notes → notes ≡ entries caller more
 noted_more caller before now more notes came noted =
     append_cancel_left (entries caller before) notes (entries caller more) (sym noted ∙ ap (entries caller) came ∙ map-append (λ (a : Act). record { caller = caller; act = a }) before more)
+
+-- ── no journal is kept ──
+
+unkept : (caller : CallerId) (kept : Option (Vec Entry Global)) (l : List Act) → is_some kept ≡ false → IsJournal caller kept l
+unkept caller None l none = tt
+unkept caller (Some kept) l none = absurd (let no : true ≡ false = none in cc no)
+
+-- where none is kept, there is nothing to note
+pub none_noted : (c : ℕ) (past now : List Entry) (old new : Machine) → keeps old ≡ false → new.journal ≡ old.journal → NotesOn c past now old new
+none_noted c past now old new none same more done came was =
+    subst (λ (j : Option (Vec Entry Global)). IsJournal new.caller j (done ++ more)) (sym same) (unkept new.caller old.journal (done ++ more) none)

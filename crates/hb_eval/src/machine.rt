@@ -576,6 +576,47 @@ impl Machine {
         }
     }
 
+    /// The same as `advance`, for a machine that keeps no journal. A program that asks for none has no code that keeps one, and its steps are the faster for it.
+    #[inline(always)]
+    pub fn advance_unnoted<D: Desk, N: Names>(
+        &mut self,
+        alloc: Global,
+        prog: &Program,
+        desk: &mut D,
+        names: &mut N,
+        share: &mut Share,
+    ) -> Result<Turn, AllocError>
+        requires fine { IsFineMachine prog.now self.old }
+        requires going { IsGoing self.old }
+        requires plain { keeps self.old ≡ false }
+        requires holding { Holding (D.fixed desk.old).caller (self.old.state.made + 1) (frames_of self.old.frames.items) (D.front desk.old) }
+        requires cache { IsTrueCache prog.now (N.known names.old) (N.asked names.old) (D.fixed desk.old).caller (D.front desk.old) self.old.state.cache }
+        ensures fine { OnOk result (IsFineMachine prog.now self.new) }
+        ensures stands { OnOk result ((block steps : ℕ) (done : List (ℕ × Act)) → StandsFor prog.now (N.known names.old) block steps done self.old
+            → (more : List Act) × (acts (D.fixed desk.old).caller (D.front desk.new) ≡ acts (D.fixed desk.old).caller (D.front desk.old) ++ more) × StandsFor prog.now (N.known names.new) block steps (done ++ tagged self.new.state.begun more) self.new) }
+        ensures turn { IfOk result (λ turn. Turns turn self.old self.new) }
+        ensures begun { IfOk result (λ turn. HasBegun turn self.old self.new) }
+        ensures quiet { OnOk result (self.new.state.begun ≡ self.old.state.begun → D.front desk.new ≡ D.front desk.old) }
+        ensures holding { OnOk result (Holding (D.fixed desk.old).caller (self.new.state.made + 1) (frames_of self.new.frames.items) (D.front desk.new)) }
+        ensures own { OnOk result (KeepsChecks prog.now (D.fixed desk.old).caller (N.known names.old) (N.known names.new) (N.asked names.old) (N.asked names.new) (D.front desk.old) (D.front desk.new) self.old.state.cache self.new.state.cache) }
+        ensures shares { OnOk result (Shares prog.now (N.known names.new) (D.fixed desk.old).caller (D.front desk.old) (D.front desk.new) share.old share.new) }
+        ensures ended { IfOk result (λ turn. turn ≡ Ended → (q : ℕ) → stands (D.fixed desk.old).caller q (D.front desk.new) ≡ []) }
+        ensures nothing { OnErr result ((q : ℕ) → stands (D.fixed desk.old).caller q (D.front desk.new) ≡ []) }
+        ensures stays { Stays (D.fixed desk.old) (D.fixed desk.new) (D.front desk.old) (D.front desk.new) (N.known names.old) (N.known names.new) }
+        ensures grown { OnOk result (Grown prog.now (D.fixed desk.old).caller (N.known names.new) (N.asked names.old) (N.asked names.new) (D.front desk.old) (D.front desk.new)) }
+        ensures alike { N.alike names.old names.new }
+        ensures caller { self.new.caller ≡ self.old.caller }
+        ensures keeps { keeps self.new ≡ keeps self.old }
+    {
+        match self.run(alloc, prog, desk, names, share) {
+            Ok(turn) => Ok(turn),
+            Err(error) => {
+                leave_all(desk, &mut self.frames);
+                Err(error)
+            }
+        }
+    }
+
     /// What the run came to.
     pub fn finish(self) -> ScriptRun
         requires ended { HasEnded self }

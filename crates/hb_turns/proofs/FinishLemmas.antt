@@ -1,5 +1,5 @@
 -- How players begin, and what their runs come to.
-use Rattle.std.proofs.Common.{◌≡◌, ℕ, suc, ◌+◌, ◌≤◌, List, [], ◌∷◌, ◌++◌, length, map, Some, Bool, refl, sym, ap, ◌∙◌, subst, arith}
+use Rattle.std.proofs.Common.{◌≡◌, ℕ, suc, ◌+◌, ◌≤◌, List, [], ◌∷◌, ◌++◌, length, map, Some, Bool, false, refl, sym, ap, ◌∙◌, subst, arith}
 use Rattle.std.specs.List.{AllByRecursion}
 use mathlib.Core.List.{IsPrefix}
 use Rattle.hb_types.specs.declared.ids.NodeId.{NodeId}
@@ -17,7 +17,7 @@ use Rattle.hb_eval.specs.declared.framed.Framed.{Framed}
 use Rattle.hb_eval.specs.declared.machine.Machine.{Machine}
 use Rattle.hb_eval.specs.declared.script_run.ScriptRun.{ScriptRun}
 use Rattle.hb_eval.specs.Holding.{Holding, frames_of}
-use Rattle.hb_eval.specs.Machines.{HasEnded, IsFineMachine, StandsFor}
+use Rattle.hb_eval.specs.Machines.{HasEnded, IsFineMachine, StandsFor, keeps}
 use Rattle.hb_eval.specs.Runs.{script_run}
 use Rattle.hb_eval.specs.Told.{Told, told, told_by}
 use Rattle.hb_eval.proofs.HoldingLemmas.{holding_empty}
@@ -27,11 +27,12 @@ use Rattle.hb_turns.specs.declared.player.Player.{Player}
 use Rattle.hb_turns.specs.Playing.{IsAt, Plays, Taken, acts_by}
 use Rattle.hb_turns.specs.Players.{AreFinished, AreOver, ArePlayers, FinishesAs, HasRun, IsPlayer}
 
-pub new_plays : (t : Table) (steps c : ℕ) (names : List Name) (log : List Entry) (m : Machine) (block : NodeId) → block_of t c ≡ Some block → m.caller.0 ≡ c → IsFineMachine t m
+pub new_plays : (t : Table) (steps c : ℕ) (names : List Name) (log : List Entry) (m : Machine) (block : NodeId) → block_of t c ≡ Some block → m.caller.0 ≡ c → keeps m ≡ false → IsFineMachine t m
     → (m.frames.items ≡ []) × (m.state.made ≡ 0)
     → StandsFor t names block.0 steps [] m → acts c log ≡ [] → IsOwnCache t names names c (Some (acts c log)) log m.state.cache → Plays t steps c names log [] m
-new_plays t steps c names log m block runs mine fine fresh stands_for idle own = record {
+new_plays t steps c names log m block runs mine plain fine fresh stands_for idle own = record {
   caller = mine;
+  plain = plain;
   block = block;
   runs = runs;
   fine = fine;

@@ -23,7 +23,7 @@ use Rattle.hb_call.specs.OwnLaws.{own_grows, own_named}
 use Rattle.hb_call.specs.Rules.{EntersBy, FitsRules}
 use Rattle.hb_eval.specs.declared.machine.Machine.{Machine}
 use Rattle.hb_eval.specs.Holding.{Holding, frames_of}
-use Rattle.hb_eval.specs.Machines.{IsFineMachine, StandsFor}
+use Rattle.hb_eval.specs.Machines.{IsFineMachine, StandsFor, keeps}
 use Rattle.hb_eval.specs.State.{tagged}
 use Rattle.hb_eval.proofs.HoldingLemmas.{holding_waits}
 use Rattle.hb_run.specs.History.{HasCaller, IsInTurn, block_of}
@@ -77,6 +77,7 @@ pub plays_on : (t : Table) (steps c d : ℕ) (came : List Act) (names longer : L
     → IsPrefix names longer → Plays t steps d names old done m → Plays t steps d longer new done m
 plays_on t steps c d came names longer old new done m apart is more p = record {
   caller = p.caller;
+  plain = p.plain;
   block = p.block;
   runs = p.runs;
   fine = p.fine;
@@ -99,15 +100,16 @@ untagged n [] = refl
 untagged n (a ∷ l) = ap (λ x. a ∷ x) (untagged n l)
 
 pub plays_turn : (t : Table) (steps c begun : ℕ) (came : List Act) (names longer : List Name) (old new : List Entry) (done : List (ℕ × Act)) (was now : Machine) → Plays t steps c names old done was → Came c came old new
-    → IsFineMachine t now → Holding c (now.state.made + 1) (frames_of now.frames.items) new → KeepsChecks t c names longer names longer old new was.state.cache now.state.cache → now.caller ≡ was.caller
+    → IsFineMachine t now → Holding c (now.state.made + 1) (frames_of now.frames.items) new → KeepsChecks t c names longer names longer old new was.state.cache now.state.cache → now.caller ≡ was.caller → keeps now ≡ keeps was
     → ((block steps : ℕ) (done : List (ℕ × Act)) → StandsFor t names block steps done was
     → (more : List Act) × (acts c new ≡ acts c old ++ more) × StandsFor t longer block steps (done ++ tagged begun more) now)
     → Plays t steps c longer new (done ++ tagged begun came) now
-plays_turn t steps c begun came names longer old new done was now p is fine holding checks caller turn =
+plays_turn t steps c begun came names longer old new done was now p is fine holding checks caller kept turn =
     let made = turn p.block.0 steps done p.stands in
     let same : made.0 ≡ came = append_cancel_left (acts c old) made.0 came (sym made.1 ∙ came_acts c came old new is) in
     record {
       caller = ap (λ (x : CallerId). x.0) caller ∙ p.caller;
+      plain = kept ∙ p.plain;
       block = p.block;
       runs = p.runs;
       fine = fine;
@@ -191,17 +193,17 @@ checks_here t c names longer old new d front cache left mine there checks =
     subst (λ (x : ℕ). KeepsChecks t x names longer names longer old new cache left) mine (subst (λ (l : List Entry). KeepsChecks t d names longer names longer l new cache left) there checks)
 
 pub took_door : (t : Table) (c : ℕ) (names longer : List Name) (old new : List Entry) (was now : Machine) (d : ℕ) (front : List Entry) → d ≡ c → front ≡ old → (came : (more : List Act) × Came c more old new)
-    → IsFineMachine t now → Holding d (now.state.made + 1) (frames_of now.frames.items) new → KeepsChecks t d names longer names longer front new was.state.cache now.state.cache → now.caller ≡ was.caller
+    → IsFineMachine t now → Holding d (now.state.made + 1) (frames_of now.frames.items) new → KeepsChecks t d names longer names longer front new was.state.cache now.state.cache → now.caller ≡ was.caller → keeps now ≡ keeps was
     → ((block steps : ℕ) (done : List (ℕ × Act)) → StandsFor t names block steps done was
     → (more : List Act) × (acts d new ≡ acts d front ++ more) × StandsFor t longer block steps (done ++ tagged now.state.begun more) now)
     → Took t c names longer old new was now
-took_door t c names longer old new was now d front mine there came fine holding checks caller turn = record {
+took_door t c names longer old new was now d front mine there came fine holding checks caller kept turn = record {
   more = came.0;
   came = came.1;
   plays = λ steps done p.
       plays_turn t steps c now.state.begun came.0 names longer old new done was now p came.1 fine
       (subst (λ (x : ℕ). Holding x (now.state.made + 1) (frames_of now.frames.items) new) mine holding)
-      (checks_here t c names longer old new d front was.state.cache now.state.cache mine there checks) caller
+      (checks_here t c names longer old new d front was.state.cache now.state.cache mine there checks) caller kept
       (subst (λ (x : ℕ). Turning x old) mine (subst (Turning d) there turn));
 }
   where

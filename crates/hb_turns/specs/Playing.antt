@@ -14,13 +14,14 @@ use Rattle.hb_call.specs.OwnCache.{IsOwnCache}
 use Rattle.hb_call.specs.Rules.{EntersBy, FitsRules}
 use Rattle.hb_eval.specs.declared.machine.Machine.{Machine}
 use Rattle.hb_eval.specs.Holding.{Holding, frames_of}
-use Rattle.hb_eval.specs.Machines.{HasEnded, IsFineMachine, IsGoing, StandsFor}
+use Rattle.hb_eval.specs.Machines.{HasEnded, IsFineMachine, IsGoing, StandsFor, keeps}
 use Rattle.hb_eval.specs.State.{tagged}
 use Rattle.hb_run.specs.History.{HasCaller, IsInTurn, block_of}
 
--- The machine of a caller between two turns, whoever takes them: it stands for the run of the caller's block behind the acts that the caller made, and its frames and its cache are those of these acts.
+-- The machine of a caller between two turns, whoever takes them: it keeps no journal, it stands for the run of the caller's block behind the acts that the caller made, and its frames and its cache are those of these acts.
 pub record Plays (t : Table) (steps c : ℕ) (names : List Name) (log : List Entry) (done : List (ℕ × Act)) (m : Machine) : Type 0 where
   pub caller : m.caller.0 ≡ c
+  pub plain : keeps m ≡ false
   pub block : NodeId
   pub runs : block_of t c ≡ Some block
   pub fine : IsFineMachine t m

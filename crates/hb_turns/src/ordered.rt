@@ -14,6 +14,7 @@ use hb_types::ids::CallerId;
 use std::alloc::{AllocError, Global};
 
 /// The player at this place takes a turn. The callers of the players go on from the first one.
+#[inline(always)]
 pub fn turn_at(
     alloc: Global,
     prog: &Program,

@@ -23,6 +23,7 @@ pub struct Player {
 }
 
 /// The player takes a turn.
+#[inline(always)]
 pub fn play(
     alloc: Global,
     prog: &Program,

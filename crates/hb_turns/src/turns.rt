@@ -16,6 +16,7 @@ use hb_types::ids::CallerId;
 use std::alloc::{AllocError, Global};
 
 /// One turn of a caller. What the others play stays as it is.
+#[inline(always)]
 pub fn take_turn(
     alloc: Global,
     prog: &Program,
@@ -38,7 +39,7 @@ pub fn take_turn(
     // With turns nothing is shared.
     let mut share = Share::Off;
     let mut desk = tables.desk(caller);
-    let turn = machine.advance(alloc, prog, &mut desk, names, &mut share)?;
+    let turn = machine.advance_unnoted(alloc, prog, &mut desk, names, &mut share)?;
     // All entries that came are the caller's own.
     tables.history();
     Ok(turn)

@@ -29,7 +29,7 @@ loop-at-preserved c =
           let came = c.in_ok-machine.ensures in
           let none = idle (suc c.loop-at.at) (omega arith) in
           let mine : c.in_ok-machine.machine.caller.0 ≡ suc c.loop-at.at = ap (λ (x : CallerId). x.0) came.fresh.2 ∙ number in
-          let plays = new_plays t c.args.steps (suc c.loop-at.at) names log c.in_ok-machine.machine c.script.result.1 runs mine
+          let plays = new_plays t c.args.steps (suc c.loop-at.at) names log c.in_ok-machine.machine c.script.result.1 runs mine came.keeps
           (came.fine t c.script.ensures.block) (came.fresh.0, came.fresh.1) (came.stands t names c.script.ensures.block) none
           (subst (λ (d : ℕ). IsOwnCache t names names d (Some (acts d log)) log c.in_ok-machine.machine.state.cache) number (came.own t names names log)) in
           let one : IsPlayer t c.args.steps (suc c.loop-at.at) names log [] p = record { plays = plays; at = came.going; numbered = came.fresh.3 } in

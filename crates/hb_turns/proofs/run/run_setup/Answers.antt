@@ -15,7 +15,7 @@ play_alone-requires-clause-plays c =
     let idle = ap (acts 0) c.requires.log in (
       c.args.steps,
       [],
-      new_plays t c.args.steps 0 c.args.names.now c.args.tables.now.log c.in_ok-machine.machine c.args.block c.requires.setup (ap (λ (x : CallerId). x.0) came.fresh.2)
+      new_plays t c.args.steps 0 c.args.names.now c.args.tables.now.log c.in_ok-machine.machine c.args.block c.requires.setup (ap (λ (x : CallerId). x.0) came.fresh.2) came.keeps
           (came.fine t c.requires.block) (came.fresh.0, came.fresh.1) (came.stands t c.args.names.now c.requires.block) idle (came.own t c.args.names.now c.args.names.now c.args.tables.now.log),
     )
 
@@ -29,7 +29,7 @@ returns-clause-ran c =
     let came = c.in_ok-machine.ensures in
     let t = c.args.prog.now in
     let idle = ap (acts 0) c.requires.log in
-    let first = new_plays t c.args.steps 0 c.args.names.now c.args.tables.now.log c.in_ok-machine.machine c.args.block c.requires.setup (ap (λ (x : CallerId). x.0) came.fresh.2)
+    let first = new_plays t c.args.steps 0 c.args.names.now c.args.tables.now.log c.in_ok-machine.machine c.args.block c.requires.setup (ap (λ (x : CallerId). x.0) came.fresh.2) came.keeps
     (came.fine t c.requires.block) (came.fresh.0, came.fresh.1) (came.stands t c.args.names.now c.requires.block) idle (came.own t c.args.names.now c.args.names.now c.args.tables.now.log) in
     let last = c.in_ok-play_alone.ensures.plays c.args.steps [] first in
     finish_run t c.args.steps 0 c.play_alone.new.names c.play_alone.new.tables.log last.0 c.play_alone.new.machine c.finish.result last.1 c.finish.ensures.run

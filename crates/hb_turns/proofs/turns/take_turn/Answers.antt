@@ -12,24 +12,24 @@ pub returns-clause-took : goal.returns-clause-took
 returns-clause-took c =
     let came = c.in_ok-turn.ensures in
     let opened = c.desk-desk.ensures.tables in
-    let own : AreOwn c.args.caller.0 (drop (length c.args.tables.now.log) c.advance.new.desk.tables.now.log) = search rules in
-    subst (λ (x : List Entry). Took c.args.prog.now c.args.caller.0 c.args.names.now c.advance.new.names c.args.tables.now.log x c.args.machine.now c.advance.new.self) (search rules)
-    (took_door c.args.prog.now c.args.caller.0 c.args.names.now c.advance.new.names c.args.tables.now.log c.advance.new.desk.tables.now.log c.args.machine.now c.advance.new.self _ _
+    let own : AreOwn c.args.caller.0 (drop (length c.args.tables.now.log) c.advance_unnoted.new.desk.tables.now.log) = search rules in
+    subst (λ (x : List Entry). Took c.args.prog.now c.args.caller.0 c.args.names.now c.advance_unnoted.new.names c.args.tables.now.log x c.args.machine.now c.advance_unnoted.new.self) (search rules)
+    (took_door c.args.prog.now c.args.caller.0 c.args.names.now c.advance_unnoted.new.names c.args.tables.now.log c.advance_unnoted.new.desk.tables.now.log c.args.machine.now c.advance_unnoted.new.self _ _
     (ap (λ (x : Tables). x.caller) opened) (ap (λ (x : Tables). x.log) opened)
-    (came_through c.args.caller.0 c.args.tables.now.log c.advance.new.desk.tables.now.log (subst (λ (x : Tables). IsPrefix x.log c.advance.new.desk.tables.now.log) opened c.advance.ensures.stays.kept) own)
-    came.fine came.holding came.own c.advance.ensures.caller came.stands)
+    (came_through c.args.caller.0 c.args.tables.now.log c.advance_unnoted.new.desk.tables.now.log (subst (λ (x : Tables). IsPrefix x.log c.advance_unnoted.new.desk.tables.now.log) opened c.advance_unnoted.ensures.stays.kept) own)
+    came.fine came.holding came.own c.advance_unnoted.ensures.caller c.advance_unnoted.ensures.keeps came.stands)
 
 pub returns-clause-under_way : goal.returns-clause-under_way
 returns-clause-under_way c =
     let came = c.in_ok-turn.ensures in
     let opened = c.desk-desk.ensures.tables in
-    let legal : IsLegal c.args.tables.now.limit c.advance.new.desk.tables.now.log =
-    subst (λ (n : ℕ). IsLegal n c.advance.new.desk.tables.now.log) (ap (λ (x : Tables). x.limit) opened)
-    (c.advance.ensures.stays.legal (subst (λ (x : Tables). IsLegal x.limit x.log) (sym opened) c.requires.under_way.legal)) in
-    let own : AreOwn c.args.caller.0 (drop (length c.args.tables.now.log) c.advance.new.desk.tables.now.log) = search rules in
-    let new = came_through c.args.caller.0 c.args.tables.now.log c.advance.new.desk.tables.now.log (subst (λ (x : Tables). IsPrefix x.log c.advance.new.desk.tables.now.log) opened c.advance.ensures.stays.kept) own in
-    subst (λ (x : List Entry). IsUnderWay c.args.prog.now c.args.tables.now.limit c.advance.new.names x) (search rules)
-    (under_way_door c.args.prog.now c.args.tables.now.limit c.args.caller.0 c.args.names.now c.advance.new.names c.args.tables.now.log c.advance.new.desk.tables.now.log c.requires.plays.2.block
-    c.args.machine.now.state.cache c.advance.new.self.state.cache _ _
-    (ap (λ (x : Tables). x.caller) opened) (ap (λ (x : Tables). x.log) opened) c.requires.under_way legal new c.advance.ensures.stays.named c.advance.ensures.stays.few
-    c.advance.ensures.stays.differ came.grown c.requires.plays.2.own came.own c.requires.plays.2.runs c.requires.alone)
+    let legal : IsLegal c.args.tables.now.limit c.advance_unnoted.new.desk.tables.now.log =
+    subst (λ (n : ℕ). IsLegal n c.advance_unnoted.new.desk.tables.now.log) (ap (λ (x : Tables). x.limit) opened)
+    (c.advance_unnoted.ensures.stays.legal (subst (λ (x : Tables). IsLegal x.limit x.log) (sym opened) c.requires.under_way.legal)) in
+    let own : AreOwn c.args.caller.0 (drop (length c.args.tables.now.log) c.advance_unnoted.new.desk.tables.now.log) = search rules in
+    let new = came_through c.args.caller.0 c.args.tables.now.log c.advance_unnoted.new.desk.tables.now.log (subst (λ (x : Tables). IsPrefix x.log c.advance_unnoted.new.desk.tables.now.log) opened c.advance_unnoted.ensures.stays.kept) own in
+    subst (λ (x : List Entry). IsUnderWay c.args.prog.now c.args.tables.now.limit c.advance_unnoted.new.names x) (search rules)
+    (under_way_door c.args.prog.now c.args.tables.now.limit c.args.caller.0 c.args.names.now c.advance_unnoted.new.names c.args.tables.now.log c.advance_unnoted.new.desk.tables.now.log c.requires.plays.2.block
+    c.args.machine.now.state.cache c.advance_unnoted.new.self.state.cache _ _
+    (ap (λ (x : Tables). x.caller) opened) (ap (λ (x : Tables). x.log) opened) c.requires.under_way legal new c.advance_unnoted.ensures.stays.named c.advance_unnoted.ensures.stays.few
+    c.advance_unnoted.ensures.stays.differ came.grown c.requires.plays.2.own came.own c.requires.plays.2.runs c.requires.alone)
