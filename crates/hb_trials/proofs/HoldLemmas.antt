@@ -4,29 +4,21 @@ use Rattle.std.specs.Prelude.{map, None, Option, Some}
 use mathlib.Core.List.{IsPrefix}
 use mathlib.Core.Logic.{dite}
 use native.Mathlib.Decide.{ℕ_discrete}
-use Rattle.hb_types.specs.declared.ids.CallNo.{CallNo}
-use Rattle.hb_types.specs.declared.ids.KeyId.{KeyId}
-use Rattle.hb_types.specs.declared.ids.TypeSite.{TypeSite}
-use Rattle.hb_types.specs.declared.ids.BodySite.{BodySite}
+use Rattle.hb_types.specs.declared.{ids.CallNo.CallNo, ids.KeyId.KeyId, ids.TypeSite.TypeSite, ids.BodySite.BodySite}
 use Rattle.hb_tree.specs.Table.{Table}
 use Rattle.hb_names.specs.Names.{Name, with_name}
 use Rattle.hb_cache.specs.declared.kept.Kept.{Kept}
-use Rattle.hb_tables.specs.declared.entry.Entry.{Entry}
-use Rattle.hb_tables.specs.declared.entry.Act.TheVariants.{Busy, WornType, WornDef}
-use Rattle.hb_tables.specs.declared.desk.TypeAnswer.{TypeAnswer}
+use Rattle.hb_tables.specs.declared.{entry.Entry.Entry, entry.Act.TheVariants.Busy, entry.Act.TheVariants.WornType, entry.Act.TheVariants.WornDef, desk.TypeAnswer.TypeAnswer}
+use Rattle.hb_tables.specs.declared.{desk.DefAnswer.DefAnswer}
 use Rattle.hb_tables.specs.declared.desk.TypeAnswer.TheVariants as typed
-use Rattle.hb_tables.specs.declared.desk.DefAnswer.{DefAnswer}
 use Rattle.hb_tables.specs.declared.desk.DefAnswer.TheVariants as defined
-use Rattle.hb_tables.specs.Frames.{acts}
+use Rattle.hb_tables.specs.{Frames.acts, Standing.Stand, Standing.count_of}
 use Rattle.hb_tables.specs.Answers.{Fixed, TypeAdds, DefAdds}
-use Rattle.hb_tables.specs.Standing.{Stand, count_of}
 use Rattle.hb_tables.proofs.DeskLemmas.{type_apart, def_apart}
 use Rattle.hb_call.specs.Held.{Holds, HasRoom, stands}
-use Rattle.hb_call.specs.OwnCache.{IsTrueCache}
-use Rattle.hb_call.specs.OwnLaws.{own_none, own_true}
+use Rattle.hb_call.specs.{OwnCache.IsTrueCache, OwnLaws.own_none, OwnLaws.own_true}
 use Rattle.hb_eval.specs.Keeping.{StaysOwn}
-use Rattle.hb_eval.proofs.HoldingLemmas.{nothing_held}
-use Rattle.hb_eval.proofs.KeepingLemmas.{keeps_named, stays_left}
+use Rattle.hb_eval.proofs.{HoldingLemmas.nothing_held, KeepingLemmas.keeps_named, KeepingLemmas.stays_left}
 use Rattle.hb_trials.specs.declared.desks.TheConstants.{CALL}
 use Rattle.hb_trials.specs.Desks.{IsAloneAt, IsIdle, IsReady, HoldSame, StaysReady}
 
@@ -81,14 +73,3 @@ ready_on t names known was asked name before door old new kept left longer named
   idle = same_idle before door old new same ready.idle;
   checks = subst (λ (d : Fixed). IsTrueCache t known asked d.caller new left) (sym is) ((keeps_named t before.caller names known was asked name old new kept left longer named stays).own None ready.checks);
 }
-
-none_true : (t : Table) (names asked : List Name) (c : ℕ) (log : List Entry) → IsTrueCache t names asked c log []
-none_true t names asked c log = own_true t names asked c (Some (acts c log)) log [] (own_none t names asked c log [] (λ k. refl))
-
--- Nothing was done yet, and nothing is kept.
-pub ready_first : (t : Table) (names asked : List Name) (door : Fixed) → IsReady t names asked door [] []
-ready_first t names asked door = record { idle = λ q. refl; checks = none_true t names asked door.caller [] }
-
--- Nothing is kept, whatever was done.
-pub ready_anew : (t : Table) (names asked : List Name) (door : Fixed) (log : List Entry) (kept : List (Option Kept)) → IsReady t names asked door log kept → IsReady t names asked door log []
-ready_anew t names asked door log kept ready = record { idle = ready.idle; checks = none_true t names asked door.caller log }

@@ -2,8 +2,7 @@
 use Rattle.std.specs.Prelude.{List, map, Option, Some, None}
 use Rattle.hb_check.specs.declared.lookup.LookFail.TheVariants as look
 use Rattle.hb_check.specs.Asked.{Asked, Refusal, asked, refusal}
-use Rattle.hb_types.specs.declared.ids.ClassId.{ClassId}
-use Rattle.hb_types.specs.declared.ids.NameId.{NameId}
+use Rattle.hb_types.specs.declared.{ids.ClassId.ClassId, ids.NameId.NameId}
 use Rattle.hb_trials.specs.declared.declarations.Declarations.{Declarations}
 
 abbrev pub answers_in : Declarations → List Asked

@@ -7,8 +7,7 @@ use Rattle.hb_tables.specs.declared.entry.Entry.{Entry}
 use Rattle.hb_tables.specs.Answers.{Fixed}
 use Rattle.hb_call.specs.declared.frame.Entered.{Entered}
 use Rattle.hb_call.specs.declared.frame.Entered.TheVariants as entered
-use Rattle.hb_call.specs.Held.{stands}
-use Rattle.hb_call.specs.OwnCache.{IsTrueCache}
+use Rattle.hb_call.specs.{Held.stands, OwnCache.IsTrueCache}
 use Rattle.hb_trials.specs.declared.desks.TheConstants.{CALL}
 
 -- none of them holds a key

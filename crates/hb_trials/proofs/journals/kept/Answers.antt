@@ -1,8 +1,7 @@
 use Rattle.std.proofs.Common.{◌≡◌, ℕ, List, Some, [], refl, sym, ap, subst, ◌∙◌}
 use Rattle.hb_tables.specs.declared.entry.Entry.{Entry}
 use Rattle.hb_tables.specs.Plain.{Tables}
-use Rattle.hb_call.specs.OwnCache.{IsTrueCache}
-use Rattle.hb_call.specs.OwnLaws.{own_true}
+use Rattle.hb_call.specs.{OwnCache.IsTrueCache, OwnLaws.own_true}
 use Rattle.hb_trials.proofs.journals.kept.Goals as goal
 
 pub run_to_end-requires-clause-cache : goal.run_to_end-requires-clause-cache
