@@ -1,5 +1,5 @@
 -- How the players go on from nothing.
-use Rattle.std.proofs.Common.{◌≡◌, ◌⊎◌, inl, inr, ℕ, zero, suc, ◌+◌, ◌<◌, ◌≤◌, List, [], ◌∷◌, ◌++◌, length, Some, true, false, Bool, refl, sym, ap, ◌∙◌, subst, arith}
+use Rattle.std.proofs.Common.{◌≡◌, ◌⊎◌, inl, inr, ℕ, zero, suc, ◌+◌, ◌<◌, ◌≤◌, List, [], ◌∷◌, ◌++◌, length, Some, true, refl, sym, ap, ◌∙◌, subst, arith}
 use Rattle.std.specs.Prelude.{slice_get, slice_set}
 use Rattle.hb_tree.specs.Table.{Table}
 use Rattle.hb_names.specs.Names.{Name}
@@ -7,7 +7,7 @@ use Rattle.hb_tables.specs.declared.entry.Entry.{Entry}
 use Rattle.hb_run.specs.History.{callers_from}
 use Rattle.hb_call.specs.GrowthLaws.{prefix_itself, prefix_more}
 use Rattle.hb_turns.specs.declared.player.Player.{Player}
-use Rattle.hb_turns.specs.Players.{AreOver, Follows, GoOn, GoesOne, HaveGone, IsInOrder, TookTurn, weight, weight_at}
+use Rattle.hb_turns.specs.Players.{AreOver, Follows, GoOn, GoesOne, HaveGone, IsInOrder, TookTurn}
 use Rattle.hb_turns.proofs.OrderLemmas.{order_passes, order_rests, order_takes, passes_over, passes_unknown}
 use Rattle.hb_turns.proofs.PlayerLemmas.{set_length}
 
@@ -115,25 +115,3 @@ goes_turn t limit at names longer old new was now many below over u = record {
   named = u.named;
   many = ap length u.moved ∙ set_length was at u.player;
 }
-
--- a turn makes a player's weight less
-pub lighter : (t : Table) (limit at : ℕ) (names longer : List Name) (old new : List Entry) (was now : List Player) → TookTurn t limit 1 at names longer old new was now → weight_at now at < weight_at was at
-lighter t limit at names longer old new was now u =
-    let before : weight_at was at ≡ weight u.before = weight_there at was u.before u.there in
-    let behind : weight_at now at ≡ weight u.player = ap (λ (x : List Player). weight_at x at) u.moved ∙ weight_there at (slice_set was at u.player) u.player (set_there at was u.before u.player u.there) in
-    let was_one : weight u.before ≡ 1 + u.before.machine.state.fuel = (let is = u.goes_on in rw is refl) in
-    (let less = go u.player.over refl in omega (arith, before, behind, was_one, less))
-  where
-    weight_there : (i : ℕ) (ps : List Player) (p : Player) → slice_get ps i ≡ Some p → weight_at ps i ≡ weight p
-    weight_there i [] p is = absurd cc
-    weight_there zero (x ∷ ps) p is = let same : x ≡ p = cc is in ap weight same
-    weight_there (suc i) (x ∷ ps) p is = weight_there i ps p is
-
-    set_there : (i : ℕ) (ps : List Player) (p q : Player) → slice_get ps i ≡ Some p → slice_get (slice_set ps i q) i ≡ Some q
-    set_there i [] p q is = absurd cc
-    set_there zero (x ∷ ps) p q is = refl
-    set_there (suc i) (x ∷ ps) p q is = set_there i ps p q is
-
-    go : (over : Bool) → u.player.over ≡ over → weight u.player < 1 + u.before.machine.state.fuel
-    go true is = (let none : weight u.player ≡ 0 = rw is refl in omega (arith, none))
-    go false is = (let one : weight u.player ≡ 1 + u.player.machine.state.fuel = rw is refl in let falls = u.falls is in omega (arith, one, falls))

@@ -5,3 +5,4 @@ mod GoneLemmas
 mod FinishLemmas
 pub mod RunLemmas
 mod TagLemmas
+mod ThroughLemmas

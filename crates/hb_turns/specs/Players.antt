@@ -114,14 +114,11 @@ pub record GoOn (t : Table) (limit : ℕ) (names longer : List Name) (old new : 
   pub named : IsPrefix names longer
   pub many : length now ≡ length was
 
--- how long a player may still go on
-abbrev pub weight : Player → ℕ
-weight p = if p.over then 0 else 1 + p.machine.state.fuel
-
-abbrev pub weight_at : List Player → ℕ → ℕ
-weight_at [] at = 0
-weight_at (p ∷ ps) zero = weight p
-weight_at (p ∷ ps) (suc at) = weight_at ps at
+-- From this player the caller's came to that one. Among whatever players it has a place, they went on by this, where nothing is left of the order.
+abbrev pub GoesAmong : Table → (limit c : ℕ) → (names longer : List Name) → (old new : List Entry) → (was now : Player) → Type 0
+GoesAmong t limit c names longer old new was now = (at : ℕ) (ps : List Player) → c ≡ 1 + at → slice_get ps at ≡ Some was → at < length ps
+    → length t.scripts ≡ length ps → AreOver at ps
+    → (steps : ℕ) (start : List Entry) (us : List Taken) → HavePlayed t limit steps 1 start us names old ps → GoOn t limit names longer old new ps (slice_set ps at now)
 
 -- This is what an ended machine's run came to, whatever run the machine stands for.
 abbrev pub FinishesAs : Machine → ScriptRun → Type 0

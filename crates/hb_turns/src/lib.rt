@@ -4,6 +4,7 @@
 mod finishing;
 mod ordered;
 mod player;
+mod playing_out;
 mod run;
 mod turns;
 

@@ -7,6 +7,7 @@ ghost use Rattle.hb_turns.specs.Playing.{Taken};
 ghost use Rattle.hb_turns.specs.Players.{AreOver, Follows, GoOn, GoesOne, HaveGone, HavePlayed, TookTurn};
 
 use crate::player::{Player, play};
+use crate::playing_out::play_to_end;
 use hb_names::PlainNames;
 use hb_tables::plain::PlainTables;
 use hb_tree::program::Program;
@@ -143,8 +144,8 @@ fn play_out_at(
     ensures gone { OnOk result (GoOn prog.now tables.old.limit names.old names.new tables.old.log tables.new.log players.old.items players.new.items) }
     ensures limit { OnOk result (tables.new.limit ≡ tables.old.limit) }
 {
-    while !players[at].over {
-        turn_at(alloc, prog, 1, players, at, tables, names)?;
-    }
+    let caller = CallerId(1 + at as u8);
+    let player = &mut players[at];
+    play_to_end(alloc, prog, caller, player, tables, names)?;
     Ok(())
 }
