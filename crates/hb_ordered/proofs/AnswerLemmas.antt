@@ -1,7 +1,9 @@
 -- What is asked of the tables has one answer.
 use Rattle.std.proofs.Common.{◌≡◌, ◌⊎◌, inl, inr, ℕ, suc, ◌+◌, ◌≤◌, Bool, true, false, List, [], ◌∷◌, ◌++◌, length, length-append, map, Option, Some, None, refl, sym, ap, ◌∙◌}
 use Rattle.std.proofs.Common.{subst, arith, append_assoc, eq-eqb, cond, eqb}
-use Rattle.std.specs.Prelude.{Contains}
+use Rattle.std.specs.Prelude.{Contains, slice_get}
+use Rattle.std.specs.Option.{option_map}
+use Rattle.std.proofs.lemmas.Bool.Decides.{eqb_tells}
 use Rattle.std.proofs.lemmas.List.{append_cancel_left, append-nil}
 use Rattle.std.proofs.lemmas.Option.{none-some, same_Some}
 use mathlib.Core.List.{IsPrefix}
@@ -14,10 +16,12 @@ use Rattle.hb_types.specs.declared.types.MethodTy.{MethodTy}
 use Rattle.hb_tree.specs.declared.parts.Body.{Body}
 use Rattle.hb_tree.specs.Table.{Table}
 use Rattle.hb_deriv.specs.Judge.{Key, Types}
+use Rattle.hb_deriv.specs.Derivation.{type_at}
+use Rattle.hb_deriv.specs.Programs.{sites_of}
 use Rattle.hb_deriv.specs.Events.{looks}
 use Rattle.hb_names.specs.declared.names.TheConstants.{NAMES_MAX}
-use Rattle.hb_names.specs.Names.{Name, place}
-use Rattle.hb_names.proofs.NameLemmas.{place-apart}
+use Rattle.hb_names.specs.Names.{Differ, IsFull, Name, place}
+use Rattle.hb_names.proofs.NameLemmas.{place-apart, place-at, place-one}
 use Rattle.hb_tables.specs.declared.entry.Act.{Act}
 use Rattle.hb_tables.specs.declared.entry.Act.TheVariants.{Hold, Free, Retype, Busy, WornType, Define, WornDef, Call}
 use Rattle.hb_tables.specs.declared.entry.ArgKinds.{ArgKinds}
@@ -27,18 +31,19 @@ use Rattle.hb_tables.specs.declared.entry.Verdict.{Verdict}
 use Rattle.hb_tables.specs.declared.entry.Verdict.TheVariants as verdict
 use Rattle.hb_tables.specs.declared.entry.Entry.{Entry}
 use Rattle.hb_tables.specs.Frames.{acts, KeepsHold}
-use Rattle.hb_tables.specs.History.{FitsAct, IsLegal, Spot, entry, key_of, spot, times, same_call}
+use Rattle.hb_tables.specs.History.{FitsAct, Spot, blank, done, entry, key_of, spot, spot_from, times, same_call, without}
 use Rattle.hb_tables.specs.Names.{name_of}
-use Rattle.hb_tables.specs.Rows.{HoldsName, IsDecided, body_at, fill, kinds_of, type_of_key, types_in, verdict_in}
+use Rattle.hb_tables.specs.Rows.{HoldsName, IsDecided, body_at, fill, kinds_of, needs_in, site_in, type_of_key, types_in, verdict_in}
 use Rattle.hb_tables.specs.Standing.{count_of}
-use Rattle.hb_tables.specs.Verdicts.{as_fresh, looks_of, subject, takes}
+use Rattle.hb_tables.specs.Verdicts.{as_fresh, looks_of, subject, takes, verdict_of}
 use Rattle.hb_tables.proofs.FrameLemmas.{acts_append, hold_stays, keeps_parts}
 use Rattle.hb_tables.proofs.HistoryLemmas.{redefs_grow, redefs_same, spot_more, turn_here}
 use Rattle.hb_tables.proofs.StandingLemmas.{held_stands}
 use Rattle.hb_call.specs.Held.{HasCall}
 use Rattle.hb_call.specs.Rules.{Began, EntersBy, FitsFree, FitsHold, FitsRules, GivesUp, HoldsNext, IsFullRightly, IsNextLook, IsRightWay, IsWay, runs}
 use Rattle.hb_ordered.specs.Asking.{Question, Defines, Declares, Starts, Goes, Ends, Answers, Defined, Undefined, Retyped, Held, Worn, Started, Looked, GaveBack, Decided}
-use Rattle.hb_ordered.specs.Asking.{Ended, IsAnswer, IsAsked, IsOpen, TakesAt, FitsArguments}
+use Rattle.hb_ordered.specs.Asking.{Ended, IsAnswer, IsAsked, IsOpen, TakesAt, FitsArguments, AsksOne, DefineOne, DeclareOne, StartOne, GoOne, EndOne}
+use Rattle.hb_ordered.specs.Sharing.{AreShared, HasKey, IsShared, Meet, NotFull}
 
 -- ── a `def`, a `type`, the first Hold of a call and its last Frees ──
 
@@ -336,35 +341,6 @@ module _ (t : Table) (limit : ℕ) (names : List Name) (c : ℕ) (log : List Ent
   no_place : (p : Name) → place names p ≡ None → HoldsName names log (c, q.0) p → ⊥
   no_place p none h = none-some h.0 (sym none ∙ h.1)
 
-  hold_hold : (key other : KeyId) (ty ty' : Option TypeSite) (n n' : ℕ) → HoldsNext t names c q key log → HoldsNext t names c q other log → FitsAct limit c (spot key.0 log) (Hold q key ty n)
-      → FitsAct limit c (spot other.0 log) (Hold q other ty' n') → Hold q key ty n ≡ Hold q other ty' n'
-  hold_hold key other ty ty' n n' a b x y = hold_one limit c log q key other ty ty' n n' (elim (meets a.look b.look (near a.look a.next) (near b.look b.next)) [
-    | inl is ↦ (let e : key.0 ≡ other.0 = same_Some key.0 other.0 (sym a.is ∙ ap (λ (l : Key). place names (name_of t l)) is ∙ b.is) in λ i. record { 0 = e i })
-    | inr (inl h) ↦ absurd (not_held key ty n a.look a.is x h)
-    | inr (inr h) ↦ absurd (not_held other ty' n' b.look b.is y h)
-  ]) x y
-
-  hold_free : (key other : KeyId) (ty : Option TypeSite) (n : ℕ) → length names ≤ NAMES_MAX → HoldsNext t names c q key log → IsFullRightly t names c q other log → FitsAct limit c (spot key.0 log) (Hold q key ty n) → ⊥
-  hold_free key other ty n few a f x = elim (meets a.look f.look (near a.look a.next) (near f.look f.next)) [
-    | inl is ↦ none-some key.0 (sym (f.full few).1 ∙ ap (λ (l : Key). place names (name_of t l)) (sym is) ∙ a.is)
-    | inr (inl h) ↦ not_held key ty n a.look a.is x h
-    | inr (inr h) ↦ no_place (name_of t f.look) (f.full few).1 h
-  ]
-
-  hold_call : (key : KeyId) (ty : Option TypeSite) (n : ℕ) (site : Option BodySite) (kinds : List Ty) (v : Verdict) → HoldsNext t names c q key log → TakesAt t log mine.0 kinds
-      → FitsAct limit c (spot key.0 log) (Hold q key ty n) → IsDecided t names log (c, q.0) mine.0 site kinds v → ⊥
-  hold_call key ty n site kinds v a taken x d = not_held key ty n a.look a.is x (decided_holds a.look site kinds v (near a.look a.next) taken d)
-
-  free_call : (key : KeyId) (site : Option BodySite) (kinds : List Ty) (v : Verdict) → length names ≤ NAMES_MAX → IsFullRightly t names c q key log → TakesAt t log mine.0 kinds
-      → IsDecided t names log (c, q.0) mine.0 site kinds v → ⊥
-  free_call key site kinds v few f taken d = no_place (name_of t f.look) (f.full few).1 (decided_holds f.look site kinds v (near f.look f.next) taken d)
-
-  free_free : (key other : KeyId) → IsFullRightly t names c q key log → IsFullRightly t names c q other log → Free q key ≡ Free q other
-  free_free key other f g =
-      let first : f.next.key ≡ mine = (one_began c q f.next.key mine f.next.start start log f.next.began began).0 in
-      let second : g.next.key ≡ mine = (one_began c q g.next.key mine g.next.start start log g.next.began began).0 in
-      ap (λ k. Free q k) (sym f.own ∙ first ∙ sym second ∙ g.own)
-
   call_call : (site site' : Option BodySite) (args : ArgKinds) (v w : Verdict) → IsDecided t names log (c, q.0) mine.0 site (kinds_of args) v
       → IsDecided t names log (c, q.0) mine.0 site' (kinds_of args) w → IsRightWay c [] mine.0 log v → IsRightWay c [] mine.0 log w
       → Call q mine site args v ≡ Call q mine site' args w
@@ -381,52 +357,284 @@ opened c q k log o =
     let key : o.key ≡ record { 0 = k } = (let e = o.key_is in λ i. record { 0 = e i }) in
     subst (λ (p : CallNo). Began c p (record { 0 = k }) o.start log) call (subst (λ (j : KeyId). Began c o.call j o.start log) key o.began)
 
-goes_one : (t : Table) (limit : ℕ) (names : List Name) (c : ℕ) (log : List Entry) (q k : ℕ) (kinds : List Ty) (a b : Act) → Answers (Goes q k kinds) a → Answers (Goes q k kinds) b
-    → IsOpen c q k log → length names ≤ NAMES_MAX
-    → FitsAct limit c (spot (key_of a) log) a → FitsAct limit c (spot (key_of b) log) b → FitsRules t names c log a → FitsRules t names c log b → EntersBy c [] log a → EntersBy c [] log b
-    → FitsArguments t log (Goes q k kinds) a → FitsArguments t log (Goes q k kinds) b → a ≡ b
-goes_one t limit names c log _ _ _ _ _ (Looked k kinds q key ty n) (Looked _ _ _ other ty' n') o few f g r s va vb x y =
-    let mine : KeyId = record { 0 = k } in let b = opened c q k log o in
-    hold_hold t limit names c log q mine o.start b o.same key other ty ty' n n' (looks_next t limit names c log q mine o.start b o.same key ty n r.hold)
-    (looks_next t limit names c log q mine o.start b o.same other ty' n' s.hold) f g
-goes_one t limit names c log _ _ _ _ _ (Looked k kinds q key ty n) (GaveBack _ _ _ other) o few f g r s va vb x y =
-    let mine : KeyId = record { 0 = k } in let b = opened c q k log o in
-    absurd (hold_free t limit names c log q mine o.start b o.same key other ty n few (looks_next t limit names c log q mine o.start b o.same key ty n r.hold)
-    (full_next t limit names c log q mine o.start b o.same other o.undecided (o.goes_on q refl) s.free) f)
-goes_one t limit names c log _ _ _ _ _ (Looked k kinds q key ty n) (Decided _ args _ mine site v e) o few f g r s va vb x y =
-    let b = opened c q mine.0 log o in
-    absurd (hold_call t limit names c log q mine o.start b o.same key ty n site kinds v (looks_next t limit names c log q mine o.start b o.same key ty n r.hold) x f
-    (subst (λ (ks : List Ty). IsDecided t names log (c, q.0) mine.0 site ks v) e s.row.0))
-goes_one t limit names c log _ _ _ _ _ (GaveBack k kinds q key) (Looked _ _ _ other ty n) o few f g r s va vb x y =
-    let mine : KeyId = record { 0 = k } in let b = opened c q k log o in
-    absurd (hold_free t limit names c log q mine o.start b o.same other key ty n few (looks_next t limit names c log q mine o.start b o.same other ty n s.hold)
-    (full_next t limit names c log q mine o.start b o.same key o.undecided (o.goes_on q refl) r.free) g)
-goes_one t limit names c log _ _ _ _ _ (GaveBack k kinds q key) (GaveBack _ _ _ other) o few f g r s va vb x y =
-    let mine : KeyId = record { 0 = k } in let b = opened c q k log o in
-    free_free t limit names c log q mine o.start b o.same key other (full_next t limit names c log q mine o.start b o.same key o.undecided (o.goes_on q refl) r.free)
-    (full_next t limit names c log q mine o.start b o.same other o.undecided (o.goes_on q refl) s.free)
-goes_one t limit names c log _ _ _ _ _ (GaveBack k kinds q key) (Decided _ args _ mine site v e) o few f g r s va vb x y =
-    let b = opened c q mine.0 log o in
-    absurd (free_call t limit names c log q mine o.start b o.same key site kinds v few (full_next t limit names c log q mine o.start b o.same key o.undecided (o.goes_on q refl) r.free) x
-    (subst (λ (ks : List Ty). IsDecided t names log (c, q.0) mine.0 site ks v) e s.row.0))
-goes_one t limit names c log _ _ _ _ _ (Decided kinds args q mine site v e) (Looked _ _ _ key ty n) o few f g r s va vb x y =
-    let b = opened c q mine.0 log o in
-    absurd (hold_call t limit names c log q mine o.start b o.same key ty n site kinds v (looks_next t limit names c log q mine o.start b o.same key ty n s.hold) y g
-    (subst (λ (ks : List Ty). IsDecided t names log (c, q.0) mine.0 site ks v) e r.row.0))
-goes_one t limit names c log _ _ _ _ _ (Decided kinds args q mine site v e) (GaveBack _ _ _ key) o few f g r s va vb x y =
-    let b = opened c q mine.0 log o in
-    absurd (free_call t limit names c log q mine o.start b o.same key site kinds v few (full_next t limit names c log q mine o.start b o.same key o.undecided (o.goes_on q refl) s.free) y
-    (subst (λ (ks : List Ty). IsDecided t names log (c, q.0) mine.0 site ks v) e r.row.0))
-goes_one t limit names c log _ _ _ _ _ (Decided kinds args q mine site v e) (Decided _ other _ _ site' w e') o few f g r s va vb x y =
-    let args_are : args ≡ other = r.row.1 ∙ ap fill (e ∙ sym e') ∙ sym s.row.1 in
-    ap (λ (a : ArgKinds). Call q mine site a v) args_are
-    ∙ call_call t limit names c log q mine o.start (opened c q mine.0 log o) o.same site site' other v w
-    (subst (λ (a : ArgKinds). IsDecided t names log (c, q.0) mine.0 site (kinds_of a) v) args_are r.row.0) s.row.0 va vb
+-- ── two lists of names ──
 
-pub one_answer : (t : Table) (limit : ℕ) (names : List Name) (c : ℕ) (log : List Entry) → IsLegal limit log → (u : Question) (a b : Act) → IsAsked c log u → IsAnswer t limit names c log u a
-    → IsAnswer t limit names c log u b → FitsArguments t log u a → FitsArguments t log u b → a ≡ b
-one_answer t limit names c log legal (Defines k s) a b asked x y fa fb = define_one limit c log k s a b x.answers y.answers x.fits y.fits
-one_answer t limit names c log legal (Declares k s) a b asked x y fa fb = declare_one limit c log k s a b x.answers y.answers x.fits y.fits
-one_answer t limit names c log legal (Starts q k) a b asked x y fa fb = start_one limit c log q k a b x.answers y.answers x.fits y.fits
-one_answer t limit names c log legal (Goes q k kinds) a b asked x y fa fb = goes_one t limit names c log q k kinds a b x.answers y.answers asked x.few x.fits y.fits x.rules y.rules x.way y.way fa fb
-one_answer t limit names c log legal (Ends q k) a b asked x y fa fb = end_one q k a b x.answers y.answers
+pub shared_back : (names others : List Name) (a : Act) → IsShared names others a → IsShared others names a
+shared_back names others (Hold q key ty n) h = sym h
+shared_back names others (Free q key) h = tt
+shared_back names others (Retype key site) h = sym h
+shared_back names others (Busy key pins) h = sym h
+shared_back names others (WornType key) h = sym h
+shared_back names others (Define key site) h = sym h
+shared_back names others (WornDef key) h = sym h
+shared_back names others (Call q key site args v) h = tt
+
+pub all_back : (names others : List Name) (l : List Act) → AreShared names others l → AreShared others names l
+all_back names others [] h = tt
+all_back names others (a ∷ l) h = (shared_back names others a h.0, all_back names others l h.1)
+
+-- a name that both lists have at one place has this key in both
+pub moves : (names others : List Name) (p : Name) (j : ℕ) → Differ others → slice_get names j ≡ slice_get others j → place names p ≡ Some j → place others p ≡ Some j
+moves names others p j differ same e = place-one others p j differ (sym same ∙ place-at names p j e)
+
+-- nobody holds the key, and it has no type
+abbrev IsIdle : Spot → Type 0
+IsIdle s = (s.calls ≡ []) × (s.ty ≡ None)
+
+idle_or : (names others : List Name) (j : ℕ) (s : Spot) (log : List Entry) → IsIdle s → AreShared names others (map (λ e. e.act) log) → (slice_get names j ≡ slice_get others j) ⊎ IsIdle (spot_from j s log)
+idle_or names others j s [] i h = inr i
+idle_or names others j s (e ∷ log) i h = one e.act h.0 i (λ s i. idle_or names others j s log i h.1)
+  where
+    at : (k : ℕ) (x : Spot) → slice_get names k ≡ slice_get others k → ((s : Spot) → IsIdle s → (slice_get names j ≡ slice_get others j) ⊎ IsIdle (spot_from j s log)) → IsIdle s
+        → (slice_get names j ≡ slice_get others j) ⊎ IsIdle (spot_from j (cond (eqb j k) x s) log)
+    at k x same more i = elim (eqb_tells j k) as (λ z. (slice_get names j ≡ slice_get others j) ⊎ IsIdle (spot_from j (cond (eqb j k) x s) log)) [
+      | inl is ↦ inl (subst (λ n. slice_get names n ≡ slice_get others n) (sym is.1) same)
+      | inr not ↦ subst (λ b. (slice_get names j ≡ slice_get others j) ⊎ IsIdle (spot_from j (cond b x s) log)) (sym not.0) (more s i)
+    ]
+
+    still : (b : Bool) (x : Spot) → IsIdle x → ((s : Spot) → IsIdle s → (slice_get names j ≡ slice_get others j) ⊎ IsIdle (spot_from j s log)) → IsIdle s
+        → (slice_get names j ≡ slice_get others j) ⊎ IsIdle (spot_from j (cond b x s) log)
+    still true x idle more i = more x idle
+    still false x idle more i = more s i
+
+    one : (a : Act) → IsShared names others a → IsIdle s → ((s : Spot) → IsIdle s → (slice_get names j ≡ slice_get others j) ⊎ IsIdle (spot_from j s log))
+        → (slice_get names j ≡ slice_get others j) ⊎ IsIdle (spot_from j (cond (eqb j (key_of a)) (done e.caller.0 s a) s) log)
+    one (Hold q key ty n) same i more = at key.0 _ same more i
+    one (Free q key) same i more = still (eqb j key.0) _ (ap (without (e.caller.0, q.0)) i.0, i.1) more i
+    one (Retype key site) same i more = at key.0 _ same more i
+    one (Busy key pins) same i more = at key.0 _ same more i
+    one (WornType key) same i more = at key.0 _ same more i
+    one (Define key site) same i more = at key.0 _ same more i
+    one (WornDef key) same i more = at key.0 _ same more i
+    one (Call q key site args v) same i more = still (eqb j key.0) s i more i
+
+module _ (t : Table) (names others : List Name) (differ : Differ names) (differ' : Differ others) (log : List Entry) (shared : AreShared names others (map (λ e. e.act) log)) where
+  pub held_shared : (x : ℕ × ℕ) (j : ℕ) → 1 ≤ times x (spot j log).calls → slice_get names j ≡ slice_get others j
+  held_shared x j held = elim (idle_or names others j blank log (refl, refl) shared) [
+    | inl same ↦ same
+    | inr idle ↦ absurd (let none = ap (times x) idle.0 in omega (arith, held, none))
+  ]
+
+  sites : (p : Name) (o u : Option ℕ) → place names p ≡ o → place others p ≡ u → site_in log o ≡ site_in log u
+  sites p None None e f = refl
+  sites p None (Some j) e f = elim (idle_or names others j blank log (refl, refl) shared) [
+    | inl same ↦ absurd (none-some j (sym e ∙ moves others names p j differ (sym same) f))
+    | inr idle ↦ sym (ap (option_map (λ (s : TypeSite). s.0)) idle.1)
+  ]
+  sites p (Some k) None e f = elim (idle_or names others k blank log (refl, refl) shared) [
+    | inl same ↦ absurd (none-some k (sym f ∙ moves names others p k differ' same e))
+    | inr idle ↦ ap (option_map (λ (s : TypeSite). s.0)) idle.1
+  ]
+  sites p (Some k) (Some j) e f = elim (idle_or names others k blank log (refl, refl) shared) [
+    | inl same ↦ ap (site_in log) (sym (moves names others p k differ' same e) ∙ f)
+    | inr idle ↦ elim (idle_or names others j blank log (refl, refl) shared) [
+      | inl same ↦ ap (site_in log) (sym e ∙ moves others names p j differ (sym same) f)
+      | inr other ↦ ap (option_map (λ (s : TypeSite). s.0)) idle.1 ∙ sym (ap (option_map (λ (s : TypeSite). s.0)) other.1)
+    ]
+  ]
+
+  -- methods have the same types by both lists
+  types_one : types_in t names log ≡ types_in t others log
+  types_one i key = type_at (sites_of t) (sites (name_of t key) (place names (name_of t key)) (place others (name_of t key)) refl refl i)
+
+  pub holds_moved : (x : ℕ × ℕ) (p : Name) → HoldsName names log x p → HoldsName others log x p
+  holds_moved x p h = (let one = h.2 in (h.0, moves names others p h.0 differ' (held_shared x h.0 (omega (arith, one))) h.1, h.2))
+
+  next_moved : (c : ℕ) (q : CallNo) (look : Key) → IsNextLook t names c q log look → IsNextLook t others c q log look
+  next_moved c q look n = record {
+    key = n.key;
+    start = n.start;
+    began = n.began;
+    name = n.name;
+    named = moves names others n.name n.key.0 differ' (held_shared (c, q.0) n.key.0 (began_holds c q n.key n.start log n.began)) n.named;
+    site = n.site;
+    had = n.had;
+    body = n.body;
+    defined = n.defined;
+    declared = n.declared;
+    typed = n.typed;
+    held = n.held;
+    others = n.others;
+    order = ap (λ (T : Types). looks T (subject t n.name.0 n.body n.declared)) (sym types_one) ∙ n.order;
+    holds = λ p i. holds_moved (c, q.0) p (n.holds p i);
+  }
+
+  decided_moved : (c : ℕ) (q : CallNo) (key : ℕ) (site : Option BodySite) (kinds : List Ty) (v : Verdict) → 1 ≤ times (c, q.0) (spot key log).calls → IsDecided t names log (c, q.0) key site kinds v
+      → IsDecided t others log (c, q.0) key site kinds v
+  decided_moved c q key site kinds v held d =
+      let needs : needs_in t names log d.name key site kinds ≡ needs_in t others log d.name key site kinds =
+      ap (λ (T : Types). d.name ∷ map (name_of t) (looks_of t T d.name.0 (body_at t site) (type_of_key t log key) kinds)) types_one in
+      record {
+        name = d.name;
+        is = moves names others d.name key differ' (held_shared (c, q.0) key held) d.is;
+        defined = d.defined;
+        rules = d.rules ∙ ap (λ (T : Types). verdict_of t T d.name.0 (body_at t site) (type_of_key t log key) kinds) types_one;
+        held = λ p i. holds_moved (c, q.0) p (d.held p (subst (λ (l : List Name). Contains l p) (sym needs) i));
+        only = λ j one. let o = d.only j one in (o.0, subst (λ (l : List Name). Contains l o.0) needs o.1, moves names others o.0 j differ' (held_shared (c, q.0) j (omega (arith, one))) o.2);
+      }
+
+module _ (t : Table) (limit : ℕ) (names others : List Name) (differ : Differ names) (differ' : Differ others) (c : ℕ) (log : List Entry) (shared : AreShared names others (map (λ e. e.act) log))
+    (q : CallNo) (mine : KeyId) (start : List Entry) (began : Began c q mine start log) (same : (spot mine.0 log).redefs ≡ (spot mine.0 start).redefs) where
+  held_here : 1 ≤ times (c, q.0) (spot mine.0 log).calls
+  held_here = began_holds c q mine start log began
+
+  back : AreShared others names (map (λ e. e.act) log)
+  back = all_back names others (map (λ e. e.act) log) shared
+
+  -- next looks by the two lists are one, or one of them is held
+  meet_looks : (a b : Key) → IsNextLook t names c q log a → IsNextLook t others c q log b → (a ≡ b) ⊎ (HoldsName names log (c, q.0) (name_of t a) ⊎ HoldsName others log (c, q.0) (name_of t b))
+  meet_looks a b x y = elim (meets t limit names c log q mine start began same a b (near t limit names c log q mine start began same a x)
+      (near t limit names c log q mine start began same b (next_moved t others names differ' differ log back c q b y))) [
+        | inl is ↦ inl is
+        | inr (inl h) ↦ inr (inl h)
+        | inr (inr h) ↦ inr (inr (holds_moved t names others differ differ' log shared (c, q.0) (name_of t b) h))
+      ]
+
+  pub hold_hold : (key other : KeyId) (ty ty' : Option TypeSite) (n n' : ℕ) → Meet names others (Hold q key ty n) (Hold q other ty' n') → HoldsNext t names c q key log → HoldsNext t others c q other log
+      → FitsAct limit c (spot key.0 log) (Hold q key ty n) → FitsAct limit c (spot other.0 log) (Hold q other ty' n')
+      → (Hold q key ty n ≡ Hold q other ty' n') × (slice_get names key.0 ≡ slice_get others key.0)
+  hold_hold key other ty ty' n n' meet a b x y = elim (meet_looks a.look b.look a.next b.next) [
+    | inl is ↦ (
+        let there : place others (name_of t a.look) ≡ Some other.0 = ap (λ (l : Key). place others (name_of t l)) is ∙ b.is in
+        let e : key.0 ≡ other.0 = meet (name_of t a.look) key.0 other.0 a.is there refl refl in (
+          hold_one limit c log q key other ty ty' n n' (λ i. record { 0 = e i }) x y,
+          place-at names (name_of t a.look) key.0 a.is ∙ sym (place-at others (name_of t a.look) key.0 (there ∙ ap Some (sym e))),
+        ))
+    | inr (inl h) ↦ absurd (not_held t limit names c log q mine start began same key ty n a.look a.is x h)
+    | inr (inr h) ↦ absurd (not_held t limit others c log q mine start began same other ty' n' b.look b.is y h)
+  ]
+
+  -- the key that is given back is the call's own
+  pub own_free : (key : KeyId) → IsFullRightly t names c q key log → key ≡ mine
+  own_free key f = sym f.own ∙ (one_began c q f.next.key mine f.next.start start log f.next.began began).0
+
+  pub free_hold : (key other : KeyId) (ty : Option TypeSite) (n : ℕ) → length names ≤ NAMES_MAX → ((p : Name) → IsFull names p → place others p ≡ Some other.0 → ⊥) → IsFullRightly t names c q key log
+      → HoldsNext t others c q other log → FitsAct limit c (spot other.0 log) (Hold q other ty n) → ⊥
+  free_hold key other ty n few never f b x = elim (meet_looks f.look b.look f.next b.next) [
+    | inl is ↦ never (name_of t f.look) (f.full few) (ap (λ (l : Key). place others (name_of t l)) is ∙ b.is)
+    | inr (inl h) ↦ no_place t limit names c log q mine start began same (name_of t f.look) (f.full few).1 h
+    | inr (inr h) ↦ not_held t limit others c log q mine start began same other ty n b.look b.is x h
+  ]
+
+  decided_here : (site : Option BodySite) (kinds : List Ty) (v : Verdict) → IsDecided t others log (c, q.0) mine.0 site kinds v → IsDecided t names log (c, q.0) mine.0 site kinds v
+  decided_here site kinds v d = decided_moved t others names differ' differ log back c q mine.0 site kinds v held_here d
+
+  pub hold_call : (key : KeyId) (ty : Option TypeSite) (n : ℕ) (site : Option BodySite) (kinds : List Ty) (v : Verdict) → HoldsNext t names c q key log → TakesAt t log mine.0 kinds
+      → FitsAct limit c (spot key.0 log) (Hold q key ty n) → IsDecided t others log (c, q.0) mine.0 site kinds v → ⊥
+  hold_call key ty n site kinds v a taken x d = not_held t limit names c log q mine start began same key ty n a.look a.is x
+      (decided_holds t limit names c log q mine start began same a.look site kinds v (near t limit names c log q mine start began same a.look a.next) taken (decided_here site kinds v d))
+
+  pub free_call : (key : KeyId) (site : Option BodySite) (kinds : List Ty) (v : Verdict) → length names ≤ NAMES_MAX → IsFullRightly t names c q key log → TakesAt t log mine.0 kinds
+      → IsDecided t others log (c, q.0) mine.0 site kinds v → ⊥
+  free_call key site kinds v few f taken d = no_place t limit names c log q mine start began same (name_of t f.look) (f.full few).1
+      (decided_holds t limit names c log q mine start began same f.look site kinds v (near t limit names c log q mine start began same f.look f.next) taken (decided_here site kinds v d))
+
+  pub two_calls_one : (site site' : Option BodySite) (args : ArgKinds) (v w : Verdict) → IsDecided t names log (c, q.0) mine.0 site (kinds_of args) v
+      → IsDecided t others log (c, q.0) mine.0 site' (kinds_of args) w → IsRightWay c [] mine.0 log v → IsRightWay c [] mine.0 log w
+      → Call q mine site args v ≡ Call q mine site' args w
+  two_calls_one site site' args v w a b x y = call_call t limit names c log q mine start began same site site' args v w a (decided_here site' (kinds_of args) w b) x y
+
+pub defines_key : (k s : ℕ) (a : Act) → Answers (Defines k s) a → HasKey k a
+defines_key _ _ _ (Defined key site) = refl
+defines_key _ _ _ (Undefined s key) = refl
+
+pub declares_key : (k s : ℕ) (a : Act) → Answers (Declares k s) a → HasKey k a
+declares_key _ _ _ (Retyped key site) = refl
+declares_key _ _ _ (Held s key pins) = refl
+declares_key _ _ _ (Worn s key) = refl
+
+starts_key : (q k : ℕ) (a : Act) → Answers (Starts q k) a → HasKey k a
+starts_key _ _ _ (Started q key ty n) = refl
+
+-- an act by a key that is one name's in both lists
+shared_key : (names others : List Name) (p : Name) (k : ℕ) (a : Act) → place names p ≡ Some k → place others p ≡ Some k → HasKey k a → IsShared names others a
+shared_key names others p k a e f has = go a (place-at names p k e ∙ sym (place-at others p k f)) has
+  where
+    one : (j : ℕ) → slice_get names k ≡ slice_get others k → j ≡ k → slice_get names j ≡ slice_get others j
+    one j same is = subst (λ n. slice_get names n ≡ slice_get others n) (sym is) same
+
+    go : (a : Act) → slice_get names k ≡ slice_get others k → HasKey k a → IsShared names others a
+    go (Hold q key ty n) same is = one key.0 same is
+    go (Free q key) same is = tt
+    go (Retype key site) same is = one key.0 same is
+    go (Busy key pins) same is = one key.0 same is
+    go (WornType key) same is = one key.0 same is
+    go (Define key site) same is = one key.0 same is
+    go (WornDef key) same is = one key.0 same is
+    go (Call q key site args v) same is = tt
+
+module _ (t : Table) (limit : ℕ) (names others : List Name) (differ : Differ names) (differ' : Differ others) (c : ℕ) (log : List Entry) (shared : AreShared names others (map (λ e. e.act) log)) where
+  goes_one : (q k : ℕ) (kinds : List Ty) (a b : Act) → Answers (Goes q k kinds) a → Answers (Goes q k kinds) b → IsOpen c q k log → length names ≤ NAMES_MAX → length others ≤ NAMES_MAX
+      → Meet names others a b → NotFull names others (Goes q k kinds) a b → NotFull others names (Goes q k kinds) b a
+      → FitsAct limit c (spot (key_of a) log) a → FitsAct limit c (spot (key_of b) log) b → FitsRules t names c log a → FitsRules t others c log b → EntersBy c [] log a → EntersBy c [] log b
+      → FitsArguments t log (Goes q k kinds) a → FitsArguments t log (Goes q k kinds) b → (a ≡ b) × IsShared names others a
+  goes_one _ _ _ _ _ (Looked k kinds q key ty n) (Looked _ _ _ other ty' n') o few few' meet stays stays' f g r s va vb x y =
+      let mine : KeyId = record { 0 = k } in let b = opened c q k log o in
+      hold_hold t limit names others differ differ' c log shared q mine o.start b o.same key other ty ty' n n' meet (looks_next t limit names c log q mine o.start b o.same key ty n r.hold)
+      (looks_next t limit others c log q mine o.start b o.same other ty' n' s.hold) f g
+  goes_one _ _ _ _ _ (Looked k kinds q key ty n) (GaveBack _ _ _ other) o few few' meet stays stays' f g r s va vb x y =
+      let mine : KeyId = record { 0 = k } in let b = opened c q k log o in
+      let full = full_next t limit others c log q mine o.start b o.same other o.undecided (o.goes_on q refl) s.free in
+      let own = ap (λ (j : KeyId). j.0) (own_free t limit others names differ' differ c log (all_back names others (map (λ e. e.act) log) shared) q mine o.start b o.same other full) in
+      absurd (free_hold t limit others names differ' differ c log (all_back names others (map (λ e. e.act) log) shared) q mine o.start b o.same other key ty n few' (stays' own) full
+      (looks_next t limit names c log q mine o.start b o.same key ty n r.hold) f)
+  goes_one _ _ _ _ _ (Looked k kinds q key ty n) (Decided _ args _ mine site v e) o few few' meet stays stays' f g r s va vb x y =
+      let b = opened c q mine.0 log o in
+      absurd (hold_call t limit names others differ differ' c log shared q mine o.start b o.same key ty n site kinds v (looks_next t limit names c log q mine o.start b o.same key ty n r.hold) x f
+      (subst (λ (ks : List Ty). IsDecided t others log (c, q.0) mine.0 site ks v) e s.row.0))
+  goes_one _ _ _ _ _ (GaveBack k kinds q key) (Looked _ _ _ other ty n) o few few' meet stays stays' f g r s va vb x y =
+      let mine : KeyId = record { 0 = k } in let b = opened c q k log o in
+      let full = full_next t limit names c log q mine o.start b o.same key o.undecided (o.goes_on q refl) r.free in
+      let own = ap (λ (j : KeyId). j.0) (own_free t limit names others differ differ' c log shared q mine o.start b o.same key full) in
+      absurd (free_hold t limit names others differ differ' c log shared q mine o.start b o.same key other ty n few (stays own) full
+      (looks_next t limit others c log q mine o.start b o.same other ty n s.hold) g)
+  goes_one _ _ _ _ _ (GaveBack k kinds q key) (GaveBack _ _ _ other) o few few' meet stays stays' f g r s va vb x y =
+      let mine : KeyId = record { 0 = k } in let b = opened c q k log o in
+      let one = own_free t limit names others differ differ' c log shared q mine o.start b o.same key
+      (full_next t limit names c log q mine o.start b o.same key o.undecided (o.goes_on q refl) r.free) in
+      let two = own_free t limit others names differ' differ c log (all_back names others (map (λ e. e.act) log) shared) q mine o.start b o.same other
+      (full_next t limit others c log q mine o.start b o.same other o.undecided (o.goes_on q refl) s.free) in
+      (ap (λ (j : KeyId). Free q j) (one ∙ sym two), tt)
+  goes_one _ _ _ _ _ (GaveBack k kinds q key) (Decided _ args _ mine site v e) o few few' meet stays stays' f g r s va vb x y =
+      let b = opened c q mine.0 log o in
+      absurd (free_call t limit names others differ differ' c log shared q mine o.start b o.same key site kinds v few
+      (full_next t limit names c log q mine o.start b o.same key o.undecided (o.goes_on q refl) r.free) x
+      (subst (λ (ks : List Ty). IsDecided t others log (c, q.0) mine.0 site ks v) e s.row.0))
+  goes_one _ _ _ _ _ (Decided kinds args q mine site v e) (Looked _ _ _ key ty n) o few few' meet stays stays' f g r s va vb x y =
+      let b = opened c q mine.0 log o in
+      absurd (hold_call t limit others names differ' differ c log (all_back names others (map (λ e. e.act) log) shared) q mine o.start b o.same key ty n site kinds v
+      (looks_next t limit others c log q mine o.start b o.same key ty n s.hold) y g
+      (subst (λ (ks : List Ty). IsDecided t names log (c, q.0) mine.0 site ks v) e r.row.0))
+  goes_one _ _ _ _ _ (Decided kinds args q mine site v e) (GaveBack _ _ _ key) o few few' meet stays stays' f g r s va vb x y =
+      let b = opened c q mine.0 log o in
+      absurd (free_call t limit others names differ' differ c log (all_back names others (map (λ e. e.act) log) shared) q mine o.start b o.same key site kinds v few'
+      (full_next t limit others c log q mine o.start b o.same key o.undecided (o.goes_on q refl) s.free) y
+      (subst (λ (ks : List Ty). IsDecided t names log (c, q.0) mine.0 site ks v) e r.row.0))
+  goes_one _ _ _ _ _ (Decided kinds args q mine site v e) (Decided _ other _ _ site' w e') o few few' meet stays stays' f g r s va vb x y =
+      let args_are : args ≡ other = r.row.1 ∙ ap fill (e ∙ sym e') ∙ sym s.row.1 in (
+        ap (λ (a : ArgKinds). Call q mine site a v) args_are
+            ∙ two_calls_one t limit names others differ differ' c log shared q mine o.start (opened c q mine.0 log o) o.same site site' other v w
+            (subst (λ (a : ArgKinds). IsDecided t names log (c, q.0) mine.0 site (kinds_of a) v) args_are r.row.0) s.row.0 va vb,
+        tt,
+      )
+
+  ends_shared : (q k : ℕ) (a : Act) → Answers (Ends q k) a → IsShared names others a
+  ends_shared _ _ _ (Ended q key) = tt
+
+  pub one_answer : (u v : Question) (a b : Act) → AsksOne names others u v → IsAsked c log u → Meet names others a b → NotFull names others u a b → NotFull others names v b a
+      → IsAnswer t limit names c log u a → IsAnswer t limit others c log v b → FitsArguments t log u a → FitsArguments t log v b → (a ≡ b) × IsShared names others a
+  one_answer _ _ a b (DefineOne p k j s e f) asked meet stays stays' x y fa fb =
+      let has = defines_key k s a x.answers in
+      let one : k ≡ j = meet p k j e f has (defines_key j s b y.answers) in
+      (define_one limit c log k s a b x.answers (subst (λ n. Answers (Defines n s) b) (sym one) y.answers) x.fits y.fits, shared_key names others p k a e (f ∙ ap Some (sym one)) has)
+  one_answer _ _ a b (DeclareOne p k j s e f) asked meet stays stays' x y fa fb =
+      let has = declares_key k s a x.answers in
+      let one : k ≡ j = meet p k j e f has (declares_key j s b y.answers) in
+      (declare_one limit c log k s a b x.answers (subst (λ n. Answers (Declares n s) b) (sym one) y.answers) x.fits y.fits, shared_key names others p k a e (f ∙ ap Some (sym one)) has)
+  one_answer _ _ a b (StartOne p k j q e f) asked meet stays stays' x y fa fb =
+      let has = starts_key q k a x.answers in
+      let one : k ≡ j = meet p k j e f has (starts_key q j b y.answers) in
+      (start_one limit c log q k a b x.answers (subst (λ n. Answers (Starts q n) b) (sym one) y.answers) x.fits y.fits, shared_key names others p k a e (f ∙ ap Some (sym one)) has)
+  one_answer _ _ a b (GoOne q k kinds) asked meet stays stays' x y fa fb =
+      goes_one q k kinds a b x.answers y.answers asked x.few y.few meet stays stays' x.fits y.fits x.rules y.rules x.way y.way fa fb
+  one_answer _ _ a b (EndOne q k) asked meet stays stays' x y fa fb = (end_one q k a b x.answers y.answers, ends_shared q k a x.answers)

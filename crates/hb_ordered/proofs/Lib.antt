@@ -1,7 +1,10 @@
 mod FitsLemmas
 mod AnswerLemmas
+mod NamesLemmas
 mod LaterLemmas
 mod PartLemmas
+mod MeaningLemmas
+mod StopLemmas
 mod AlongLemmas
 mod OpenLemmas
 mod NextLemmas
@@ -10,4 +13,5 @@ mod TakenLemmas
 mod WalkLemmas
 mod RealLemmas
 mod FirstLemmas
+mod ThenLemmas
 mod OneLemmas

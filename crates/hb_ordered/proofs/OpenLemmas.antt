@@ -13,7 +13,7 @@ use Rattle.hb_tables.specs.declared.entry.Act.{Act}
 use Rattle.hb_tables.specs.declared.entry.Act.TheVariants.{Hold, Free, Retype, Busy, WornType, Define, WornDef, Call}
 use Rattle.hb_tables.specs.declared.entry.Entry.{Entry}
 use Rattle.hb_tree.specs.Table.{Table}
-use Rattle.hb_names.specs.Names.{Name}
+use Rattle.hb_names.specs.Names.{Differ, Name}
 use Rattle.hb_tables.specs.Frames.{acts, KeepsHold}
 use Rattle.hb_tables.specs.History.{IsLegal, Spot, blank, done, entry, spot, spot_from, turn}
 use Rattle.hb_tables.specs.Standing.{Stand, standing_from}
@@ -24,7 +24,8 @@ use Rattle.hb_call.specs.Reading.{takes_at}
 use Rattle.hb_call.specs.Rules.{Began, GivesUp}
 use Rattle.hb_turns.specs.Playing.{entries_by}
 use Rattle.hb_turns.proofs.PlayingLemmas.{acts_by_itself}
-use Rattle.hb_ordered.specs.Asking.{FitsArguments, TakesAt, Question, Defines, Declares, Starts, Goes, Ends, Answers, Started, IsAnswer, IsAsked, IsOpen}
+use Rattle.hb_ordered.specs.Asking.{FitsArguments, TakesAt, Question, Defines, Declares, Starts, Goes, Ends, Answers, Started, IsAnswer, IsAsked, IsOpen, AsksOne, DefineOne, DeclareOne, StartOne, GoOne, EndOne}
+use Rattle.hb_ordered.specs.Sharing.{AreShared, IsShared, Meet, NotFull}
 use Rattle.hb_ordered.specs.Parting.{GoesPast, first_takes, IsBelow, IsFresh, IsFreshFor, IsReadFor, IsSoFar, IsWithin, Parting, is_of}
 use Rattle.hb_ordered.proofs.FitsLemmas.{began_takes}
 use Rattle.hb_ordered.proofs.AnswerLemmas.{one_answer, one_began, split}
@@ -262,11 +263,22 @@ fits_of t limit c n before (Declares k s) since a h f legal past = tt
 fits_of t limit c n before (Starts q k) since a h f legal past = tt
 fits_of t limit c n before (Ends q k) since a h f legal past = tt
 
-pub next_one : (t : Table) (limit : ℕ) (names : List Name) (c : ℕ) (before : List Entry) (common first second : List Act) (x : Parting t common first second)
-    → IsLegal limit (before ++ entries_by c x.since) → acts c before ≡ map (λ e. e.1) x.state.read
-    → IsAnswer t limit names c (before ++ entries_by c x.since) x.question x.a → IsAnswer t limit names c (before ++ entries_by c x.since) x.question x.b → x.a ≡ x.b
-next_one t limit names c before common first second x legal read a b =
-    let fresh = fresh_for x.state.next x.question (acts c before) x.since x.since_is (subst (AllByRecursion (IsBelow x.state.next)) (sym read) x.below) in
-    let fits : (e : Act) → GoesPast t x.question x.since e → FitsArguments t
-    (before ++ entries_by c x.since) x.question e = λ e past. fits_of t limit c x.state.next before x.question x.since e x.since_is fresh legal past in
-    one_answer t limit names c (before ++ entries_by c x.since) legal x.question x.a x.b (asked_of c x.state.next before x.question x.since x.since_is fresh) a b (fits x.a x.past_a) (fits x.b x.past_b)
+-- what was read for a question was read for the same one by another list
+read_other : (names others : List Name) (n : ℕ) (u v : Question) (l : List Act) → AsksOne names others u v → IsReadFor n u l → IsReadFor n v l
+read_other names others n _ _ l (DefineOne p k j s e f) h = h
+read_other names others n _ _ l (DeclareOne p k j s e f) h = h
+read_other names others n _ _ l (StartOne p k j q e f) h = h
+read_other names others n _ _ l (GoOne q k kinds) h = h
+read_other names others n _ _ l (EndOne q k) h = h
+
+pub next_one : (t : Table) (limit : ℕ) (names others : List Name) (c : ℕ) (before : List Entry) (common first second : List Act) (x : Parting t names others common first second)
+    → Differ names → Differ others → AreShared names others (map (λ e. e.act) (before ++ entries_by c x.since))
+    → IsLegal limit (before ++ entries_by c x.since) → acts c before ≡ map (λ e. e.1) x.state.read → Meet names others x.a x.b → NotFull names others x.question x.a x.b → NotFull others names x.other x.b x.a
+    → IsAnswer t limit names c (before ++ entries_by c x.since) x.question x.a → IsAnswer t limit others c (before ++ entries_by c x.since) x.other x.b → (x.a ≡ x.b) × IsShared names others x.a
+next_one t limit names others c before common first second x differ differ' shared legal read meet stays stays' a b =
+    let below = subst (AllByRecursion (IsBelow x.state.next)) (sym read) x.below in
+    let fresh = fresh_for x.state.next x.question (acts c before) x.since x.since_is below in
+    let since' = read_other names others x.state.next x.question x.other x.since x.one x.since_is in
+    let fresh' = fresh_for x.state.next x.other (acts c before) x.since since' below in
+    one_answer t limit names others differ differ' c (before ++ entries_by c x.since) shared x.question x.other x.a x.b x.one (asked_of c x.state.next before x.question x.since x.since_is fresh) meet stays stays' a b
+    (fits_of t limit c x.state.next before x.question x.since x.a x.since_is fresh legal x.past_a) (fits_of t limit c x.state.next before x.other x.since x.b since' fresh' legal x.past_b)

@@ -22,7 +22,8 @@ use Rattle.hb_tables.proofs.StandingLemmas.{count_but, count_last}
 use Rattle.hb_call.specs.Reading.{takes_at, Read, Called, FullAt, Lost as NoCall, freed, refused_at, full_at, called, same_kinds, decision, call_of}
 use Rattle.hb_sound.proofs.ReadLemmas.{kinds_same}
 use Rattle.hb_ordered.specs.Asking.{Question, Starts, Goes, Ends, Answers, Started, Looked, GaveBack, Decided, Ended}
-use Rattle.hb_ordered.specs.Parting.{GoesPast, IsPast, first_takes, IsBelow, IsWithin, IsSoFar}
+use Rattle.hb_ordered.specs.Parting.{AreFrees, GoesPast, IsPast, first_takes, IsBelow, IsWithin, IsSoFar}
+use Rattle.hb_ordered.specs.Sharing.{IsOwnFree}
 
 -- the answer to a question, by the numbers of its act
 pub starts : (q k : ℕ) (p : CallNo) (key : KeyId) (ty : Option TypeSite) (n : ℕ) → p.0 ≡ q → key.0 ≡ k → Answers (Starts q k) (Hold p key ty n)
@@ -119,10 +120,63 @@ decision_leaves fits q k kinds held (WornType j ∷ l) = tt
 decision_leaves fits q k kinds held (Define j site ∷ l) = tt
 decision_leaves fits q k kinds held (WornDef j ∷ l) = tt
 
+-- ── a call that finds the list of names full ──
+
+-- Frees are read, up to the rest
+unfoldable pub FreesTo : List Act → Option (List Act) → Type 0
+FreesTo l None = Unit {0}
+FreesTo l (Some rest) = (fs : List Act) × AreFrees fs × (l ≡ fs ++ rest)
+
+pub freed_frees : (q : ℕ) (hs : List Stand) (l : List Act) → FreesTo l (freed q hs l)
+unfolding FreesTo
+freed_frees q [] l = ([], tt, refl)
+freed_frees q (h ∷ hs) [] = tt
+freed_frees q (h ∷ hs) (Free p key ∷ l) = go (nat_eq p.0 q && nat_eq key.0 h.key) (freed q hs l) (freed_frees q hs l)
+  where
+    go : (b : Bool) (o : Option (List Act)) → FreesTo l o → FreesTo (Free p key ∷ l) (if b then o else None)
+    go true None r = tt
+    go true (Some rest) r = (Free p key ∷ r.0, r.1, ap (λ m. Free p key ∷ m) r.2)
+    go false o r = tt
+freed_frees q (h ∷ hs) (Hold p key ty n ∷ l) = tt
+freed_frees q (h ∷ hs) (Call p key site args v ∷ l) = tt
+freed_frees q (h ∷ hs) (Retype key site ∷ l) = tt
+freed_frees q (h ∷ hs) (Busy key pins ∷ l) = tt
+freed_frees q (h ∷ hs) (WornType key ∷ l) = tt
+freed_frees q (h ∷ hs) (Define key site ∷ l) = tt
+freed_frees q (h ∷ hs) (WornDef key ∷ l) = tt
+
+-- there is no call, or it is Full behind Frees
+unfoldable pub FullRead : List Act → Read → Type 0
+FullRead l NoCall = Unit {0}
+FullRead l (FullAt rest) = (fs : List Act) × AreFrees fs × (l ≡ fs ++ rest)
+FullRead l (Called site v held rest) = ⊥
+
+full_frees : (l : List Act) (o : Option (List Act)) → FreesTo l o → FullRead l (full_at o)
+unfolding FreesTo FullRead
+full_frees l None h = tt
+full_frees l (Some rest) h = h
+
+-- a Free of the call's own key is the first of such Frees
+own_full : (fits : Bool) (q k : ℕ) (kinds : List Ty) (held : List Stand) (a : Act) (l : List Act) → IsOwnFree (Goes q k kinds) a → FullRead (a ∷ l) (decision fits q k kinds held (a ∷ l))
+unfolding FullRead
+own_full fits q k kinds held (Free p j) l own = go (fits && nat_eq p.0 q) (nat_eq j.0 k) (eq-eqb j.0 k own)
+  where
+    go : (b c : Bool) → c ≡ true → FullRead (Free p j ∷ l) (if b then (if c then full_at (freed q held (Free p j ∷ l)) else decision fits q k kinds (all_but j.0 held) l) else NoCall)
+    go true true e = full_frees (Free p j ∷ l) (freed q held (Free p j ∷ l)) (freed_frees q held (Free p j ∷ l))
+    go true false e = absurd (cc e)
+    go false c e = tt
+own_full fits q k kinds held (Hold p j ty n) l own = absurd own
+own_full fits q k kinds held (Call p j site args v) l own = absurd own
+own_full fits q k kinds held (Retype j site) l own = absurd own
+own_full fits q k kinds held (Busy j pins) l own = absurd own
+own_full fits q k kinds held (WornType j) l own = absurd own
+own_full fits q k kinds held (Define j site) l own = absurd own
+own_full fits q k kinds held (WornDef j) l own = absurd own
+
 -- ── the first act of a reading ──
 
 -- there is no reading, or the first act answers the question and was read
-data Head (u : Question) (l : List Act) (Rest : Act → List Act → Type 0) : Type 0 where
+pub data Head (u : Question) (l : List Act) (Rest : Act → List Act → Type 0) : Type 0 where
   First : (a : Act) (m : List Act) → l ≡ a ∷ m → Answers u a → Rest a m → Head u l Rest
 
 freed_head : (q : ℕ) (h : Stand) (hs : List Stand) (l : List Act) → (freed q (h ∷ hs) l ≡ None) ⊎ Head (Ends q h.key) l (λ a m. Behind m (freed q (h ∷ hs) l))
@@ -237,7 +291,7 @@ module _ (t : Table) (first second : List Act) where
         → TwoReads q k kinds so_far pre (Called site v held (left ++ first)) (Called site v held (left ++ second))
     BothFull : (used left : List Act) → AllByRecursion (IsBelow (suc q)) used → pre ≡ used ++ left → TwoReads q k kinds so_far pre (FullAt (left ++ first)) (FullAt (left ++ second))
     PartIn : (u : Question) (a b : Act) (m n : List Act) (x y : Read) → Asks q k kinds (so_far ++ pre) u → first ≡ a ∷ m → second ≡ b ∷ n → Answers u a → Answers u b → Leaves m x → Leaves n y
-        → GoesPast t u (so_far ++ pre) a → GoesPast t u (so_far ++ pre) b → TwoReads q k kinds so_far pre x y
+        → GoesPast t u (so_far ++ pre) a → GoesPast t u (so_far ++ pre) b → (IsOwnFree u a → FullRead first x) → (IsOwnFree u b → FullRead second y) → TwoReads q k kinds so_far pre x y
 
   module _ (q k : ℕ) (kinds : List Ty) where
     reads_more : (so_far pre : List Act) (c : Act) (x y : Read) → IsBelow (suc q) c → TwoReads q k kinds (so_far ++ c ∷ []) pre x y → TwoReads q k kinds so_far (c ∷ pre) x y
@@ -245,16 +299,16 @@ module _ (t : Table) (first second : List Act) where
     reads_more so_far pre c _ _ low (NoCallSecond r) = NoCallSecond r
     reads_more so_far pre c _ _ low (BothCalled site v held used left b e) = BothCalled site v held (c ∷ used) left (low, b) (ap (λ l. c ∷ l) e)
     reads_more so_far pre c _ _ low (BothFull used left b e) = BothFull (c ∷ used) left (low, b) (ap (λ l. c ∷ l) e)
-    reads_more so_far pre c _ _ low (PartIn u a b m n x y s e f g h i j v w) =
+    reads_more so_far pre c _ _ low (PartIn u a b m n x y s e f g h i j v w oa ob) =
         let along = append_assoc so_far (c ∷ []) pre in
-        PartIn u a b m n x y (subst (λ l. Asks q k kinds l u) along s) e f g h i j (subst (λ l. GoesPast t u l a) along v) (subst (λ l. GoesPast t u l b) along w)
+        PartIn u a b m n x y (subst (λ l. Asks q k kinds l u) along s) e f g h i j (subst (λ l. GoesPast t u l a) along v) (subst (λ l. GoesPast t u l b) along w) oa ob
 
     full_reads : (so_far pre : List Act) (x y : Option (List Act)) → TwoFrees q pre x y → TwoReads q k kinds so_far pre (full_at x) (full_at y)
     unfolding Asks
     full_reads so_far pre _ _ (NoFirst o) = NoCallFirst (full_at o)
     full_reads so_far pre _ _ (NoSecond o) = NoCallSecond (full_at o)
     full_reads so_far pre _ _ (Alike used left b e) = BothFull used left b e
-    full_reads so_far pre _ _ (PartAt j a b m n x y e f g h u v) = PartIn (Ends q j) a b m n (full_at x) (full_at y) (inr (inr (j, refl))) e f g h (full_leaves m x u) (full_leaves n y v) tt tt
+    full_reads so_far pre _ _ (PartAt j a b m n x y e f g h u v) = PartIn (Ends q j) a b m n (full_at x) (full_at y) (inr (inr (j, refl))) e f g h (full_leaves m x u) (full_leaves n y v) tt tt (λ own. absurd own) (λ own. absurd own)
 
     refused_reads : (so_far pre : List Act) (site : Option BodySite) (w : Verdict) (x y : Option (List Act)) → TwoFrees q pre x y → TwoReads q k kinds so_far pre (refused_at site w x) (refused_at site w y)
     unfolding Asks
@@ -262,7 +316,7 @@ module _ (t : Table) (first second : List Act) where
     refused_reads so_far pre site w _ _ (NoSecond o) = NoCallSecond (refused_at site w o)
     refused_reads so_far pre site w _ _ (Alike used left b e) = BothCalled site w [] used left b e
     refused_reads so_far pre site w _ _ (PartAt j a b m n x y e f g h u v) = PartIn (Ends q j) a b m n (refused_at site w x) (refused_at site w y) (inr (inr (j, refl))) e f g h
-        (refused_leaves m site w x u) (refused_leaves n site w y v) tt tt
+        (refused_leaves m site w x u) (refused_leaves n site w y v) tt tt (λ own. absurd own) (λ own. absurd own)
 
     called_reads : (so_far pre : List Act) (site : Option BodySite) (w : Verdict) (held : List Stand) → TwoReads q k kinds so_far pre (called q site w held (pre ++ first)) (called q site w held (pre ++ second))
     called_reads so_far pre site (verdict.Enter way) held = BothCalled site (verdict.Enter way) held [] pre tt refl
@@ -309,17 +363,21 @@ module _ (t : Table) (first second : List Act) where
     two_decisions : (fits : Bool) (held : List Stand) (so_far pre : List Act) → 1 ≤ count_of k held → IsSoFar q k so_far → fits ≡ first_takes t kinds so_far
         → TwoReads q k kinds so_far pre (decision fits q k kinds held (pre ++ first)) (decision fits q k kinds held (pre ++ second))
     unfolding Asks
-    two_decisions fits held so_far [] has so ok = go (decision fits q k kinds held first) (decision fits q k kinds held second) (decision_head fits q k kinds held first has) (decision_head fits q k kinds held second has)
+    two_decisions fits held so_far [] has so ok = go (decision fits q k kinds held first) (decision fits q k kinds held second) (decision_head fits q k kinds held first has)
+        (decision_head fits q k kinds held second has)
+        (λ a m e own. subst (λ l. FullRead l (decision fits q k kinds held l)) (sym e) (own_full fits q k kinds held a m own))
+        (λ a m e own. subst (λ l. FullRead l (decision fits q k kinds held l)) (sym e) (own_full fits q k kinds held a m own))
       where
         known : fits ≡ first_takes t kinds (so_far ++ [])
         known = ok ∙ ap (first_takes t kinds) (sym (append-nil so_far))
 
         go : (x y : Read) → (x ≡ NoCall) ⊎ Head (Goes q k kinds) first (λ a m. IsPast fits a × Leaves m x) → (y ≡ NoCall) ⊎ Head (Goes q k kinds) second (λ a m. IsPast fits a × Leaves m y)
+            → ((a : Act) (m : List Act) → first ≡ a ∷ m → IsOwnFree (Goes q k kinds) a → FullRead first x) → ((a : Act) (m : List Act) → second ≡ a ∷ m → IsOwnFree (Goes q k kinds) a → FullRead second y)
             → TwoReads q k kinds so_far [] x y
-        go x y (inl e) r = subst (λ o. TwoReads q k kinds so_far [] o y) (sym e) (NoCallFirst y)
-        go x y (inr f) (inl e) = subst (λ o. TwoReads q k kinds so_far [] x o) (sym e) (NoCallSecond x)
-        go x y (inr (First a m e f u)) (inr (First b n g h v)) = PartIn (Goes q k kinds) a b m n x y (inr (inl (refl, subst (IsSoFar q k) (sym (append-nil so_far)) so))) e g f h u.1 v.1
-            (subst (λ (d : Bool). IsPast d a) known u.0) (subst (λ (d : Bool). IsPast d b) known v.0)
+        go x y (inl e) r oa ob = subst (λ o. TwoReads q k kinds so_far [] o y) (sym e) (NoCallFirst y)
+        go x y (inr f) (inl e) oa ob = subst (λ o. TwoReads q k kinds so_far [] x o) (sym e) (NoCallSecond x)
+        go x y (inr (First a m e f u)) (inr (First b n g h v)) oa ob = PartIn (Goes q k kinds) a b m n x y (inr (inl (refl, subst (IsSoFar q k) (sym (append-nil so_far)) so))) e g f h u.1 v.1
+            (subst (λ (d : Bool). IsPast d a) known u.0) (subst (λ (d : Bool). IsPast d b) known v.0) (oa a m e) (ob b n g)
     two_decisions fits held so_far (Hold p j ty n ∷ pre) has so ok = reads_if so_far (Hold p j ty n ∷ pre) (fits && nat_eq p.0 q) _ _ (λ both. let e = (and_both _ _ both).1 in
         reads_more so_far pre (Hold p j ty n) _ _ (own_low p q e)
         (two_decisions fits (held ++ record { key = j.0; ty = ty; changes = n } ∷ []) (so_far ++ Hold p j ty n ∷ []) pre (has_last held (record { key = j.0; ty = ty; changes = n }) has)
@@ -343,7 +401,7 @@ module _ (t : Table) (first second : List Act) where
     two_decisions fits held so_far (WornDef j ∷ pre) has so ok = NoCallFirst NoCall
 
     -- the first act of a call is the Hold of its key
-    start_head : (l : List Act) → (call_of t q k kinds l ≡ NoCall) ⊎ Head (Starts q k) l (λ a m. Leaves m (call_of t q k kinds l))
+    pub start_head : (l : List Act) → (call_of t q k kinds l ≡ NoCall) ⊎ Head (Starts q k) l (λ a m. Leaves m (call_of t q k kinds l))
     start_head [] = inl refl
     start_head (Hold p j ty n ∷ l) = go (nat_eq p.0 q && nat_eq j.0 k) refl
       where
@@ -367,7 +425,7 @@ module _ (t : Table) (first second : List Act) where
         go : (x y : Read) → (x ≡ NoCall) ⊎ Head (Starts q k) first (λ a m. Leaves m x) → (y ≡ NoCall) ⊎ Head (Starts q k) second (λ a m. Leaves m y) → TwoReads q k kinds [] [] x y
         go x y (inl e) r = subst (λ o. TwoReads q k kinds [] [] o y) (sym e) (NoCallFirst y)
         go x y (inr f) (inl e) = subst (λ o. TwoReads q k kinds [] [] x o) (sym e) (NoCallSecond x)
-        go x y (inr (First a m e f u)) (inr (First b n g h v)) = PartIn (Starts q k) a b m n x y (inl (refl, refl)) e g f h u v tt tt
+        go x y (inr (First a m e f u)) (inr (First b n g h v)) = PartIn (Starts q k) a b m n x y (inl (refl, refl)) e g f h u v tt tt (λ own. absurd own) (λ own. absurd own)
     two_calls (Hold p j ty n ∷ pre) = reads_if [] (Hold p j ty n ∷ pre) (nat_eq p.0 q && nat_eq j.0 k) _ _ (λ both. let f = (and_both _ _ both).0 in let e = (and_both _ _ both).1 in
         reads_more [] pre (Hold p j ty n) _ _ (own_low p q f)
         (two_decisions (takes_at t ty kinds) (record { key = j.0; ty = ty; changes = n } ∷ []) (Hold p j ty n ∷ []) pre (here j.0 (sym (eqb-true j.0 k e)))

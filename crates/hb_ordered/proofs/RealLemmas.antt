@@ -53,7 +53,7 @@ module _ (cs : List ℕ) (c : ℕ) (real : among c cs ≡ true) where
 
 -- ── numbers ──
 
-find : (cs : List ℕ) (us bs rest : List Taken) (u : Taken) → only cs us ≡ bs ++ u ∷ rest → (before : List Taken) × (after : List Taken) × (us ≡ before ++ u ∷ after) × (only cs before ≡ bs)
+pub find : (cs : List ℕ) (us bs rest : List Taken) (u : Taken) → only cs us ≡ bs ++ u ∷ rest → (before : List Taken) × (after : List Taken) × (us ≡ before ++ u ∷ after) × (only cs before ≡ bs)
 find cs [] [] rest u e = absurd (cc e)
 find cs [] (b ∷ bs) rest u e = absurd (cc e)
 find cs (x ∷ us) bs rest u e = go (among x.caller cs) refl bs e (λ l. find cs us l rest u)

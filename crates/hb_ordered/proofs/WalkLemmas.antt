@@ -1,13 +1,19 @@
 -- Two histories of one order have the same turns, where the next acts are the same wherever both go on.
-use Rattle.std.proofs.Common.{◌≡◌, ◌≢◌, ◌⊎◌, inl, inr, ℕ, suc, ◌+◌, ◌-◌, ◌<◌, ◌≤◌, Bool, true, false, List, [], ◌∷◌, ◌++◌, map, refl, sym, ap, ◌∙◌, subst, arith, append_assoc, cond, eqb, eq-eqb}
+use Rattle.std.proofs.Common.{◌≡◌, ◌≢◌, ◌⊎◌, inl, inr, ℕ, zero, suc, Some, length, ◌+◌, ◌-◌, ◌<◌, ◌≤◌, Bool, true, false, List, [], ◌∷◌, ◌++◌, map, refl, sym, ap, ◌∙◌, subst, arith, append_assoc, cond, eqb, eq-eqb}
 use Rattle.std.specs.Prelude.{if◌then◌else◌}
 use Rattle.std.proofs.lemmas.Bool.{eqb-true}
+use Rattle.std.proofs.lemmas.Bool.Decides.{eqb_tells}
+use mathlib.Core.List.{IsPrefix}
 use Rattle.std.proofs.lemmas.List.{append-nil, map-append}
 use Rattle.std.proofs.lemmas.Option.{same_Some}
 use Rattle.hb_types.specs.declared.ids.NodeId.{NodeId}
 use Rattle.hb_types.specs.declared.ids.NameId.{NameId}
 use Rattle.hb_tree.specs.Table.{Table}
-use Rattle.hb_names.specs.Names.{Name}
+use Rattle.hb_names.specs.declared.names.TheConstants.{NAMES_MAX}
+use Rattle.hb_names.specs.Names.{Differ, IsFull, Name, place}
+use Rattle.hb_call.specs.Growth.{asked_after}
+use Rattle.hb_eval.specs.declared.stop.Outcome.TheVariants as outcome
+use Rattle.hb_eval.specs.declared.stop.Stop.TheVariants as stop
 use Rattle.hb_tables.specs.declared.entry.Act.{Act}
 use Rattle.hb_tables.specs.declared.entry.Entry.{Entry}
 use Rattle.hb_tables.specs.Frames.{acts}
@@ -18,16 +24,19 @@ use Rattle.hb_eval.specs.Calls.{call_in}
 use Rattle.hb_eval.specs.Meaning.{ev}
 use Rattle.hb_eval.specs.Runs.{Run, script_run}
 use Rattle.hb_eval.specs.State.{tagged}
-use Rattle.hb_run.specs.History.{callers_from}
+use Rattle.hb_run.specs.History.{block_of, callers_from}
 use Rattle.hb_turns.specs.Playing.{AreNumbered, Taken, acts_by, entries_by, entries_of, turns_by}
 use Rattle.hb_turns.specs.Players.{AreTagged, IsTagged, less, turn_order, turns_for}
 use Rattle.hb_turns.proofs.PlayingLemmas.{acts_by_itself}
 use Rattle.hb_turns.proofs.RunLemmas.{own_idle}
-use Rattle.hb_ordered.specs.Parting.{Part, Parting}
-use Rattle.hb_ordered.specs.Turns.{AreAmong, among, HaveSameNext}
+use Rattle.hb_ordered.specs.Parting.{FirstLacks, GoOn, Neither, Parted, Parting, SecondLacks}
+use Rattle.hb_ordered.specs.Sharing.{AreShared, IsShared, NotFull}
+use Rattle.hb_ordered.specs.Turns.{AreAllByThen, AreAmong, among, HaveSameNext}
+use Rattle.hb_ordered.proofs.AnswerLemmas.{all_back}
+use Rattle.hb_ordered.proofs.NamesLemmas.{acts_shared, asked_begins, doings, doings_by, doings_join, prefix_never, shared_both, shared_parts}
 use Rattle.hb_ordered.proofs.AlongLemmas.{runs_part}
 use Rattle.hb_ordered.proofs.NextLemmas.{next_turn}
-use Rattle.hb_ordered.proofs.SameTurnLemmas.{TagsAre, one_turn, plain}
+use Rattle.hb_ordered.proofs.SameTurnLemmas.{FullIn, TagsAre, one_turn, plain}
 use Rattle.hb_ordered.proofs.TakenLemmas.{Alike, acts_entries, acts_of, alike_entries, alike_more, alike_plain, alike_turns, before_turn, by_join, entries_join, high_tags, no_acts, number_low, one_of, turns_of}
 
 -- The history is a beginning without scripts and then these turns, which are scripts', and each script's run reads its acts in them.
@@ -37,6 +46,10 @@ pub record Turned (t : Table) (steps : ℕ) (names : List Name) (first log : Lis
   pub numbers : AreNumbered us
   pub tagged : AreTagged t names steps log us (callers_from 1 t.scripts)
   pub mine : AreAmong (callers_from 1 t.scripts) us
+  pub asked : names ≡ asked_after names [] (doings log)
+  pub differ : Differ names
+  pub few : length names ≤ NAMES_MAX
+  pub all : AreAllByThen t steps names first log us
 
 -- ── callers ──
 
@@ -82,53 +95,105 @@ module _ (t : Table) (steps : ℕ) (names : List Name) (first log : List Entry) 
 
 -- ── who has turns left ──
 
--- the script's acts end where those of the other history do
-ends_alike : (t : Table) (steps : ℕ) (names : List Name) (first log log' : List Entry) (us0 ws0 us us' vs ws : List Taken) → Turned t steps names first log us0
-    → Turned t steps names first log' ws0 → us0 ≡ us ++ vs → ws0 ≡ us' ++ ws
-    → (c : ℕ) → turns_by c us ≡ turns_by c us' → plain (acts_by c us) ≡ plain (acts_by c us') → among c (callers_from 1 t.scripts) ≡ true → turns_by c vs ≡ 0 → turns_by c ws ≡ 0
-ends_alike t steps names first log log' us0 ws0 us us' vs ws a b eu ew c turns acts_are real none = go [] refl (runs_part t (plain (acts_by c us)) [] (plain (acts_by c ws)) names 4096 x.block.0 steps x.run y.run
-    (ap (λ l. script_run t names (call_in t names 4096) x.block.0 steps l) (append-nil (plain (acts_by c us)) ∙ sym mine) ∙ x.reads)
-    (ap (λ n. script_run t names (call_in t names 4096) n.0 steps ((plain (acts_by c us)) ++ (plain (acts_by c ws)))) blocks
-    ∙ ap (λ l. script_run t names (call_in t names 4096) y.block.0 steps l) (sym others) ∙ y.reads))
+-- the last of the turns that a caller took
+record LastTurn (c : ℕ) (us : List Taken) : Type 0 where
+  pub before : List Taken
+  pub turn : Taken
+  pub after : List Taken
+  pub is : us ≡ before ++ turn ∷ after
+  pub mine : turn.caller ≡ c
+  pub none : turns_by c after ≡ 0
+
+last_turn : (c : ℕ) (us : List Taken) → 1 ≤ turns_by c us → LastTurn c us
+last_turn c [] low = absurd (omega (arith, low))
+last_turn c (u ∷ us) low = elim (eqb_tells (turns_by c us) 0) [
+  | inl none ↦ here (eqb c u.caller) refl low none.1
+  | inr some ↦ (let some_left : 1 ≤ turns_by c us = positive (turns_by c us) some.1 in let l = last_turn c us some_left in
+      record { before = u ∷ l.before; turn = l.turn; after = l.after; is = ap (λ k. u ∷ k) l.is; mine = l.mine; none = l.none })
+]
   where
-    x : IsTagged t names steps log us0 c
-    x = tagged_at t names steps log us0 (callers_from 1 t.scripts) c a.tagged real
+    positive : (n : ℕ) → n ≢ 0 → 1 ≤ n
+    positive zero not = absurd (not refl)
+    positive (suc n) not = omega arith
 
-    y : IsTagged t names steps log' ws0 c
-    y = tagged_at t names steps log' ws0 (callers_from 1 t.scripts) c b.tagged real
+    here : (b : Bool) → eqb c u.caller ≡ b → 1 ≤ cond b 1 0 + turns_by c us → turns_by c us ≡ 0 → LastTurn c (u ∷ us)
+    here true e low none = record { before = []; turn = u; after = us; is = refl; mine = sym (eqb-true c u.caller e); none = none }
+    here false e low none = absurd (omega (arith, low, none))
 
-    blocks : x.block ≡ y.block
-    blocks = same_Some x.block y.block (sym x.runs ∙ y.runs)
+some_turn : (n : ℕ) → 1 ≤ turns_for n
+some_turn zero = omega arith
+some_turn (suc n) = omega arith
 
-    mine : acts c log ≡ (plain (acts_by c us))
-    mine = journal_is t steps names first log us0 a c real ∙ ap (λ l. plain (acts_by c l)) eu ∙ ap plain (acts_of c us vs) ∙ ap (λ l. plain (acts_by c us ++ l)) (no_acts c vs none) ∙ ap plain (append-nil (acts_by c us))
+module _ (t : Table) (steps : ℕ) (names others : List Name) (first log log' : List Entry) (us0 ws0 us us' vs ws : List Taken) (a : Turned t steps names first log us0) (b : Turned t steps others first log' ws0)
+    (eu : us0 ≡ us ++ vs) (ew : ws0 ≡ us' ++ ws) (turns : (c : ℕ) → turns_by c us ≡ turns_by c us') (same : entries_of us ≡ entries_of us') (shared : AreShared names others (doings (first ++ entries_of us))) where
+  known_acts : (c : ℕ) → AreShared names others (plain (acts_by c us))
+  known_acts c = subst (AreShared names others) (acts_entries c us) (acts_shared names others c (entries_of us)
+      (shared_parts names others (doings first) (doings (entries_of us)) (subst (AreShared names others) (doings_join first (entries_of us)) shared)).1)
 
-    others : acts c log' ≡ (plain (acts_by c us)) ++ (plain (acts_by c ws))
-    others = journal_is t steps names first log' ws0 b c real ∙ ap (λ l. plain (acts_by c l)) ew ∙ ap plain (acts_of c us' ws) ∙ map-append (λ (e : ℕ × Act). e.1) (acts_by c us') (acts_by c ws)
-        ∙ ap (λ l. l ++ (plain (acts_by c ws))) (sym acts_are)
+  -- a script that took its turns does not want for a name that the other list has
+  wants_none : (c : ℕ) → turns_by c vs ≡ 0 → (x : IsTagged t names steps log us0 c) (id : NodeId) → x.run.outcome ≡ outcome.Stopped stop.Full id → IsPrefix names others
+  wants_none c none x id stops =
+      let many = x.many in
+      let some = some_turn x.run.begun in
+      let count : turns_by c us0 ≡ turns_by c us + turns_by c vs = ap (turns_by c) eu ∙ turns_of c us vs in
+      let l = last_turn c us (omega (arith, many, some, count, none)) in
+      let whole : us0 ≡ l.before ++ l.turn ∷ (l.after ++ vs) = eu ∙ ap (λ k. k ++ vs) l.is ∙ append_assoc l.before (l.turn ∷ l.after) vs in
+      let rest : turns_by l.turn.caller (l.after ++ vs) ≡ 0 = ap (λ d. turns_by d (l.after ++ vs)) l.mine ∙ turns_of c l.after vs ∙ (let m = l.none in omega (arith, m, none)) in
+      let E : List Entry = first ++ entries_of (l.before ++ l.turn ∷ []) in
+      let all : names ≡ asked_after names [] (doings E) = a.all l.before (l.after ++ vs) l.turn whole rest x.block x.run id (ap (block_of t) l.mine ∙ x.runs)
+      (ap (λ d. script_run t names (call_in t names 4096) x.block.0 steps (acts d log)) l.mine ∙ x.reads) stops in
+      let front : first ++ entries_of us ≡ E ++ entries_of l.after = ap (λ k. first ++ entries_of k) (l.is ∙ sym (append_assoc l.before (l.turn ∷ []) l.after))
+      ∙ ap (λ k. first ++ k) (entries_join (l.before ++ l.turn ∷ []) l.after) ∙ sym (append_assoc first (entries_of (l.before ++ l.turn ∷ [])) (entries_of l.after)) in
+      let behind : log' ≡ E ++ (entries_of l.after ++ entries_of ws) = b.is ∙ ap (λ k. first ++ entries_of k) ew ∙ ap (λ k. first ++ k) (entries_join us' ws) ∙ sym (append_assoc first (entries_of us') (entries_of ws))
+      ∙ ap (λ k. (first ++ k) ++ entries_of ws) (sym same) ∙ ap (λ k. k ++ entries_of ws) front ∙ append_assoc E (entries_of l.after) (entries_of ws) in
+      let common : AreShared names others (doings E) = (shared_parts names others (doings E) (doings (entries_of l.after))
+      (subst (AreShared names others) (ap doings front ∙ doings_join E (entries_of l.after)) shared)).0 in
+      asked_begins names others (doings E) [] (doings (entries_of l.after ++ entries_of ws)) common tt (all ∙ ap (asked_after names []) (sym (append-nil (doings E))))
+      (b.asked ∙ ap (λ k. asked_after others [] (doings k)) behind ∙ ap (asked_after others []) (doings_join E (entries_of l.after ++ entries_of ws)))
 
-    counted : (plain (acts_by c ws)) ≡ [] → turns_by c ws ≡ 0
-    counted e =
-        let same : acts c log ≡ acts c log' = mine ∙ sym (append-nil (plain (acts_by c us))) ∙ ap (λ l. (plain (acts_by c us)) ++ l) (sym e) ∙ sym others in
-        let run : x.run ≡ y.run = same_Some x.run y.run (sym x.reads ∙ ap (λ l. script_run t names (call_in t names 4096) x.block.0 steps l) same
-        ∙ ap (λ (n : NodeId). script_run t names (call_in t names 4096) n.0 steps (acts c log')) blocks ∙ y.reads) in
-        let begun : turns_by c us0 ≡ turns_by c ws0 = x.many ∙ ap (λ (z : Run). turns_for z.begun) run ∙ sym y.many in
-        let one : turns_by c us0 ≡ turns_by c us + turns_by c vs = ap (turns_by c) eu ∙ turns_of c us vs in
-        let two : turns_by c ws0 ≡ turns_by c us' + turns_by c ws = ap (turns_by c) ew ∙ turns_of c us' ws in
-        omega (arith, begun, one, two, turns, none)
+  -- the script's acts end where those of the other history do
+  ends_alike : (c : ℕ) → plain (acts_by c us) ≡ plain (acts_by c us') → among c (callers_from 1 t.scripts) ≡ true → turns_by c vs ≡ 0 → turns_by c ws ≡ 0
+  ends_alike c acts_are real none = go [] refl (runs_part t names others (plain (acts_by c us)) [] (plain (acts_by c ws)) 4096 x.block.0 steps x.run y.run a.differ b.differ (known_acts c)
+      (ap (λ l. script_run t names (call_in t names 4096) x.block.0 steps l) (append-nil (plain (acts_by c us)) ∙ sym mine) ∙ x.reads)
+      (ap (λ n. script_run t others (call_in t others 4096) n.0 steps ((plain (acts_by c us)) ++ (plain (acts_by c ws)))) blocks
+      ∙ ap (λ l. script_run t others (call_in t others 4096) y.block.0 steps l) (sym others_are) ∙ y.reads))
+    where
+      x : IsTagged t names steps log us0 c
+      x = tagged_at t names steps log us0 (callers_from 1 t.scripts) c a.tagged real
 
-    go : (f : List Act) → f ≡ [] → ((f ≡ []) × ((plain (acts_by c ws)) ≡ [])) ⊎ Part t (plain (acts_by c us)) f (plain (acts_by c ws)) x.run y.run → turns_by c ws ≡ 0
-    go f e (inl h) = counted h.1
-    go f e (inr p) = absurd (let h : [] ≡ p.0.a ∷ p.0.behind_a = sym e ∙ p.0.is_a in cc h)
+      y : IsTagged t others steps log' ws0 c
+      y = tagged_at t others steps log' ws0 (callers_from 1 t.scripts) c b.tagged real
 
-none_left : (t : Table) (steps : ℕ) (names : List Name) (first log log' : List Entry) (us0 ws0 us us' vs ws : List Taken) → Turned t steps names first log us0
-    → Turned t steps names first log' ws0 → us0 ≡ us ++ vs → ws0 ≡ us' ++ ws
-    → ((c : ℕ) → turns_by c us ≡ turns_by c us') → ((c : ℕ) → plain (acts_by c us) ≡ plain (acts_by c us')) → (c : ℕ) → turns_by c vs ≡ 0 → turns_by c ws ≡ 0
-none_left t steps names first log log' us0 ws0 us us' vs ws a b eu ew turns acts_are c none = go (among c (callers_from 1 t.scripts)) refl
-  where
-    go : (r : Bool) → among c (callers_from 1 t.scripts) ≡ r → turns_by c ws ≡ 0
-    go true real = ends_alike t steps names first log log' us0 ws0 us us' vs ws a b eu ew c (turns c) (acts_are c) real none
-    go false other = none_there c (callers_from 1 t.scripts) ws other (among_part (callers_from 1 t.scripts) us' ws (subst (AreAmong (callers_from 1 t.scripts)) ew b.mine))
+      blocks : x.block ≡ y.block
+      blocks = same_Some x.block y.block (sym x.runs ∙ y.runs)
+
+      mine : acts c log ≡ (plain (acts_by c us))
+      mine = journal_is t steps names first log us0 a c real ∙ ap (λ l. plain (acts_by c l)) eu ∙ ap plain (acts_of c us vs) ∙ ap (λ l. plain (acts_by c us ++ l)) (no_acts c vs none) ∙ ap plain (append-nil (acts_by c us))
+
+      others_are : acts c log' ≡ (plain (acts_by c us)) ++ (plain (acts_by c ws))
+      others_are = journal_is t steps others first log' ws0 b c real ∙ ap (λ l. plain (acts_by c l)) ew ∙ ap plain (acts_of c us' ws) ∙ map-append (λ (e : ℕ × Act). e.1) (acts_by c us') (acts_by c ws)
+          ∙ ap (λ l. l ++ (plain (acts_by c ws))) (sym acts_are)
+
+      counted : x.run ≡ y.run → turns_by c ws ≡ 0
+      counted run =
+          let begun : turns_by c us0 ≡ turns_by c ws0 = x.many ∙ ap (λ (z : Run). turns_for z.begun) run ∙ sym y.many in
+          let one : turns_by c us0 ≡ turns_by c us + turns_by c vs = ap (turns_by c) eu ∙ turns_of c us vs in
+          let two : turns_by c ws0 ≡ turns_by c us' + turns_by c ws = ap (turns_by c) ew ∙ turns_of c us' ws in
+          let count = turns c in
+          omega (arith, begun, one, two, count, none)
+
+      go : (f : List Act) → f ≡ [] → GoOn t names others (plain (acts_by c us)) f (plain (acts_by c ws)) x.run y.run → turns_by c ws ≡ 0
+      go f e (Neither h k run) = counted run
+      go f e (Parted p) = absurd (let h : [] ≡ p.at.a ∷ p.at.behind_a = sym e ∙ p.at.is_a in cc h)
+      go f e (FirstLacks l) = absurd (prefix_never names others (wants_none c none x l.stops.id l.stops.stops) b.few l.name l.key l.full l.has)
+      go f e (SecondLacks l) = absurd (let h : [] ≡ l.b ∷ l.behind = sym e ∙ l.is in cc h)
+
+  none_left : ((c : ℕ) → plain (acts_by c us) ≡ plain (acts_by c us')) → (c : ℕ) → turns_by c vs ≡ 0 → turns_by c ws ≡ 0
+  none_left acts_are c none = go (among c (callers_from 1 t.scripts)) refl
+    where
+      go : (r : Bool) → among c (callers_from 1 t.scripts) ≡ r → turns_by c ws ≡ 0
+      go true real = ends_alike c (acts_are c) real none
+      go false other = none_there c (callers_from 1 t.scripts) ws other (among_part (callers_from 1 t.scripts) us' ws (subst (AreAmong (callers_from 1 t.scripts)) ew b.mine))
 
 -- ── the next turn ──
 
@@ -144,10 +209,11 @@ entries_cut c Z rest early since later x =
     ∙ sym (append_assoc Z (entries_by c early) (entries_by c since ++ entry c x ∷ (entries_by c later ++ rest)))
     ∙ sym (append_assoc (Z ++ entries_by c early) (entries_by c since) (entry c x ∷ (entries_by c later ++ rest)))
 
--- Wherever both histories go on behind the same entries with an act of one caller by which its runs part, the act is the same.
-abbrev pub GoOnAlike : Table → (log log' : List Entry) → Type 0
-GoOnAlike t log log' = (c : ℕ) (before rest rest' : List Entry) (done first second : List Act) (p : Parting t done first second) → acts c before ≡ plain p.state.read
-    → log ≡ (before ++ entries_by c p.since) ++ entry c p.a ∷ rest → log' ≡ (before ++ entries_by c p.since) ++ entry c p.b ∷ rest' → p.a ≡ p.b
+-- Wherever both histories go on behind the same entries with an act of one caller by which its runs part, the act is the same, where no run gives up for a name that the other list has.
+abbrev pub GoOnAlike : Table → (names others : List Name) → (log log' : List Entry) → Type 0
+GoOnAlike t names others log log' = (c : ℕ) (before rest rest' : List Entry) (done first second : List Act) (p : Parting t names others done first second) → acts c before ≡ plain p.state.read
+    → log ≡ (before ++ entries_by c p.since) ++ entry c p.a ∷ rest → log' ≡ (before ++ entries_by c p.since) ++ entry c p.b ∷ rest'
+    → AreShared names others (doings (before ++ entries_by c p.since)) → NotFull names others p.question p.a p.b → NotFull others names p.other p.b p.a → (p.a ≡ p.b) × IsShared names others p.a
 
 -- the turns of a history behind these and one more
 at_turn : (first log : List Entry) (us0 us vs : List Taken) (v : Taken) (c : ℕ) (early since later P : List Act) (x : Act) → log ≡ first ++ entries_of us0 → us0 ≡ us ++ v ∷ vs → v.caller ≡ c
@@ -159,24 +225,69 @@ at_turn first log us0 us vs v c early since later P x is eu mine e f =
     ∙ ap (λ l. (first ++ entries_of us) ++ (entries_by c l ++ entries_of vs)) (e ∙ ap (λ l. l ++ x ∷ later) f)
     ∙ entries_cut c (first ++ entries_of us) (entries_of vs) early since later x
 
-module _ (t : Table) (steps : ℕ) (names : List Name) (first log log' : List Entry) (us0 ws0 : List Taken) (a : Turned t steps names first log us0) (b : Turned t steps names first log' ws0)
-    (alike : GoOnAlike t log log') where
+-- the acts up to a turn, and in it
+turn_doings : (first : List Entry) (us vs : List Taken) (v : Taken) (P X : List Act) → v.acts ≡ P ++ X
+    → doings (first ++ entries_of (us ++ v ∷ vs)) ≡ (doings (first ++ entries_of us) ++ P) ++ (X ++ doings (entries_of vs))
+turn_doings first us vs v P X e =
+    ap (λ k. doings (first ++ k)) (entries_join us (v ∷ vs)) ∙ ap doings (sym (append_assoc first (entries_of us) (entries_of (v ∷ vs)))) ∙ doings_join (first ++ entries_of us) (entries_of (v ∷ vs))
+    ∙ ap (λ k. doings (first ++ entries_of us) ++ k) (doings_join (entries_by v.caller v.acts) (entries_of vs) ∙ ap (λ k. k ++ doings (entries_of vs)) (doings_by v.caller v.acts ∙ e) ∙ append_assoc P X (doings (entries_of vs)))
+    ∙ sym (append_assoc (doings (first ++ entries_of us)) P (X ++ doings (entries_of vs)))
+
+turns_low : (k m : ℕ) → k ≤ m + 1 → turns_for k ≤ m + 1
+turns_low zero m low = omega arith
+turns_low (suc k) m low = low
+
+-- a script that stops in its turn does not want for a name that the other list has
+lacks_never : (t : Table) (steps : ℕ) (names others : List Name) (first log log' : List Entry) (us0 ws0 us us' vs ws : List Taken) (v w : Taken) (c : ℕ) → Turned t steps names first log us0
+    → Turned t steps others first log' ws0 → us0 ≡ us ++ v ∷ vs → ws0 ≡ us' ++ w ∷ ws → v.caller ≡ c → w.caller ≡ c → turns_by c us ≡ turns_by c us' → entries_of us ≡ entries_of us'
+    → AreShared names others (doings (first ++ entries_of us)) → (x : IsTagged t names steps log us0 c) (P X1 Y1 : List Act) (k : ℕ) → (k ≡ v.begun) ⊎ (k ≡ w.begun) → v.acts ≡ P ++ X1 → w.acts ≡ P ++ Y1
+    → AreShared names others P → FullIn x.run k X1 → (p : Name) (key : ℕ) → IsFull names p → place others p ≡ Some key → ⊥
+lacks_never t steps names others first log log' us0 ws0 us us' vs ws v w c a b eu ew mv mw count same shared x P X1 Y1 k tag ev ew' sharedP full p key is has =
+    prefix_never names others (asked_begins names others (doings (first ++ entries_of us) ++ P) X1 (Y1 ++ doings (entries_of ws)) (shared_both names others (doings (first ++ entries_of us)) P shared sharedP) full.2
+    (all ∙ ap (asked_after names []) (turn_doings first us [] v P X1 ev ∙ ap (λ l. (doings (first ++ entries_of us) ++ P) ++ l) (append-nil X1)))
+    (b.asked ∙ ap (λ l. asked_after others [] (doings l)) (b.is ∙ ap (λ l. first ++ entries_of l) ew) ∙ ap (asked_after others []) (turn_doings first us' ws w P Y1 ew'
+    ∙ ap (λ l. (doings (first ++ l) ++ P) ++ (Y1 ++ doings (entries_of ws))) (sym same)))) b.few p key is has
+  where
+    low : k ≤ turns_by c us + 1
+    low =
+        let mine : v.begun ≤ turns_by c us + 1 = subst (λ d. v.begun ≤ turns_by d us + 1) mv (number_low us vs v (subst AreNumbered eu a.numbers)) in
+        let other : w.begun ≤ turns_by c us' + 1 = subst (λ d. w.begun ≤ turns_by d us' + 1) mw (number_low us' ws w (subst AreNumbered ew b.numbers)) in
+        elim tag [ inl e ↦ omega (arith, e, mine) | inr e ↦ omega (arith, e, other, count) ]
+
+    last : turns_by c vs ≡ 0
+    last =
+        let many : turns_by c us0 ≡ turns_for k = x.many ∙ ap turns_for full.1 in
+        let whole : turns_by c us0 ≡ turns_by c us + turns_by c (v ∷ vs) = ap (turns_by c) eu ∙ turns_of c us (v ∷ vs) in
+        let one : turns_by c (v ∷ vs) ≡ turns_by c vs + 1 = one_of (eqb c v.caller) (turns_by c vs) (eq-eqb c v.caller (sym mv)) in
+        let few = turns_low k (turns_by c us) low in
+        omega (arith, many, whole, one, few)
+
+    all : names ≡ asked_after names [] (doings (first ++ entries_of (us ++ v ∷ [])))
+    all = a.all us vs v eu (ap (λ d. turns_by d vs) mv ∙ last) x.block x.run full.0.0 (ap (block_of t) mv ∙ x.runs)
+        (ap (λ d. script_run t names (call_in t names 4096) x.block.0 steps (acts d log)) mv ∙ x.reads) full.0.1
+
+module _ (t : Table) (steps : ℕ) (names others : List Name) (first log log' : List Entry) (us0 ws0 : List Taken) (a : Turned t steps names first log us0) (b : Turned t steps others first log' ws0)
+    (alike : GoOnAlike t names others log log') where
   -- the next turns of one caller have the same acts
-  same_turn : (us us' vs ws : List Taken) (v w : Taken) (c : ℕ) → among c (callers_from 1 t.scripts) ≡ true → us0 ≡ us ++ v ∷ vs → ws0 ≡ us' ++ w ∷ ws → Alike us us' → v.caller ≡ c → w.caller ≡ c → v.acts ≡ w.acts
-  same_turn us us' vs ws v w c real eu ew so_far mv mw =
-      one_turn t names x.block.0 steps x.run y.run
+  same_turn : (us us' vs ws : List Taken) (v w : Taken) (c : ℕ) → among c (callers_from 1 t.scripts) ≡ true → us0 ≡ us ++ v ∷ vs → ws0 ≡ us' ++ w ∷ ws → Alike us us' → AreShared names others (doings (first ++ entries_of us)) → v.caller ≡ c → w.caller ≡ c
+      → (v.acts ≡ w.acts) × AreShared names others v.acts
+  same_turn us us' vs ws v w c real eu ew so_far shared mv mw =
+      one_turn t names others a.differ b.differ x.block.0 steps x.run y.run
       (ap (λ l. script_run t names (call_in t names 4096) x.block.0 steps l) (ap plain x.acts ∙ sym (journal_is t steps names first log us0 a c real)) ∙ x.reads)
-      (ap (λ l. script_run t names (call_in t names 4096) x.block.0 steps l) (ap plain y.acts ∙ sym (journal_is t steps names first log' ws0 b c real))
-      ∙ ap (λ (n : NodeId). script_run t names (call_in t names 4096) n.0 steps (acts c log')) blocks ∙ y.reads)
-      (acts_by c us) (acts_by c us') (acts_by c vs) (acts_by c ws) v.begun w.begun (alike_plain c us us' so_far) low high over v.acts w.acts next
+      (ap (λ l. script_run t others (call_in t others 4096) x.block.0 steps l) (ap plain y.acts ∙ sym (journal_is t steps others first log' ws0 b c real))
+      ∙ ap (λ (n : NodeId). script_run t others (call_in t others 4096) n.0 steps (acts c log')) blocks ∙ y.reads)
+      (acts_by c us) (acts_by c us') (acts_by c vs) (acts_by c ws) v.begun w.begun (alike_plain c us us' so_far) low high over
+      (known_acts t steps names others first log log' us0 ws0 us us' (v ∷ vs) (w ∷ ws) a b eu ew (λ d. alike_turns d us us' so_far) (alike_entries us us' so_far) shared c) v.acts w.acts next
+      (lacks_never t steps names others first log log' us0 ws0 us us' vs ws v w c a b eu ew mv mw count (alike_entries us us' so_far) shared x)
+      no_second
       (x.acts ∙ ap (acts_by c) eu ∙ acts_of c us (v ∷ vs) ∙ ap (λ l. acts_by c us ++ l) (next_by c v vs mv))
       (y.acts ∙ ap (acts_by c) ew ∙ acts_of c us' (w ∷ ws) ∙ ap (λ l. acts_by c us' ++ l) (next_by c w ws mw))
     where
       x : IsTagged t names steps log us0 c
       x = tagged_at t names steps log us0 (callers_from 1 t.scripts) c a.tagged real
 
-      y : IsTagged t names steps log' ws0 c
-      y = tagged_at t names steps log' ws0 (callers_from 1 t.scripts) c b.tagged real
+      y : IsTagged t others steps log' ws0 c
+      y = tagged_at t others steps log' ws0 (callers_from 1 t.scripts) c b.tagged real
 
       blocks : x.block ≡ y.block
       blocks = same_Some x.block y.block (sym x.runs ∙ y.runs)
@@ -215,9 +326,16 @@ module _ (t : Table) (steps : ℕ) (names : List Name) (first log log' : List En
           tags_weaker (turns_by c us' + 1) v.begun (omega (arith, number, count)) (acts_by c ws)
           (high_tags (us' ++ w ∷ ws) numbers' c (turns_by c us' + 1) (omega arith) (us' ++ w ∷ []) ws (sym (append_assoc us' (w ∷ []) ws)) (omega (arith, more)))
 
-      next : (P X1 Y1 early : List Act) (done first' second : List Act) (p : Parting t done first' second) → v.acts ≡ P ++ p.a ∷ X1 → w.acts ≡ P ++ p.b ∷ Y1 → P ≡ early ++ p.since
-          → plain p.state.read ≡ plain (acts_by c us) ++ early → p.a ≡ p.b
-      next P X1 Y1 early done first' second p ev ew' eP read =
+      no_second : (P X1 Y1 : List Act) (k : ℕ) → (k ≡ v.begun) ⊎ (k ≡ w.begun) → v.acts ≡ P ++ X1 → w.acts ≡ P ++ Y1 → AreShared names others P → FullIn y.run k Y1 → (p : Name) (key : ℕ) → IsFull others p
+          → place names p ≡ Some key → ⊥
+      no_second P X1 Y1 k tag ev ew' sharedP full p key is has =
+          lacks_never t steps others names first log' log ws0 us0 us' us ws vs w v c b a ew eu mw mv (sym count) (sym (alike_entries us us' so_far))
+          (subst (λ l. AreShared others names (doings (first ++ l))) (alike_entries us us' so_far) (all_back names others (doings (first ++ entries_of us)) shared)) y P Y1 X1 k
+          (elim tag [ inl e ↦ inr e | inr e ↦ inl e ]) ew' ev (all_back names others P sharedP) full p key is has
+
+      next : (P X1 Y1 early : List Act) (done first' second : List Act) (p : Parting t names others done first' second) → v.acts ≡ P ++ p.a ∷ X1 → w.acts ≡ P ++ p.b ∷ Y1 → P ≡ early ++ p.since
+          → plain p.state.read ≡ plain (acts_by c us) ++ early → AreShared names others P → NotFull names others p.question p.a p.b → NotFull others names p.other p.b p.a → (p.a ≡ p.b) × IsShared names others p.a
+      next P X1 Y1 early done first' second p ev ew' eP read sharedP stays stays' =
           let Z : List Entry = first ++ entries_of us in
           let here : acts c (Z ++ entries_by c early) ≡ plain p.state.read =
           acts_append c Z (entries_by c early) ∙ ap (λ l. acts c Z ++ l) (acts_by_itself c early)
@@ -226,6 +344,8 @@ module _ (t : Table) (steps : ℕ) (names : List Name) (first log log' : List En
           (at_turn first log us0 us vs v c early p.since X1 P p.a a.is eu mv ev eP)
           (at_turn first log' ws0 us' ws w c early p.since Y1 P p.b b.is ew mw ew' eP
           ∙ ap (λ l. (((first ++ l) ++ entries_by c early) ++ entries_by c p.since) ++ entry c p.b ∷ (entries_by c Y1 ++ entries_of ws)) (sym (alike_entries us us' so_far)))
+          (subst (AreShared names others) (sym (doings_join (Z ++ entries_by c early) (entries_by c p.since) ∙ ap (λ l. l ++ doings (entries_by c p.since)) (doings_join Z (entries_by c early) ∙ ap (λ l. doings Z ++ l) (doings_by c early))
+          ∙ ap (λ l. (doings Z ++ early) ++ l) (doings_by c p.since) ∙ append_assoc (doings Z) early p.since ∙ ap (λ l. doings Z ++ l) (sym eP))) (shared_both names others (doings Z) P shared sharedP)) stays stays'
 
   -- what is left behind the next turn
   left_behind : (rest : List ℕ) (v : Taken) (vs : List Taken) (c : ℕ) → v.caller ≡ c → map (λ (u : Taken). u.caller) (v ∷ vs) ≡ c ∷ turn_order rest (less c (λ d. turns_by d (v ∷ vs))) (callers_from 1 t.scripts)
@@ -245,10 +365,12 @@ module _ (t : Table) (steps : ℕ) (names : List Name) (first log log' : List En
   abbrev pub IsRest : List ℕ → List Taken → Type 0
   IsRest rest vs = map (λ (u : Taken). u.caller) vs ≡ turn_order rest (λ d. turns_by d vs) (callers_from 1 t.scripts)
 
-  nexts : (us us' vs ws : List Taken) (rest : List ℕ) → us0 ≡ us ++ vs → ws0 ≡ us' ++ ws → Alike us us' → HaveSameNext rest (λ d. turns_by d vs) (λ d. turns_by d ws) (callers_from 1 t.scripts)
-  nexts us us' vs ws rest eu ew so_far = next_turn rest (λ d. turns_by d vs) (λ d. turns_by d ws) t.scripts (λ d. (
-    none_left t steps names first log log' us0 ws0 us us' vs ws a b eu ew (λ c. alike_turns c us us' so_far) (λ c. alike_plain c us us' so_far) d,
-    none_left t steps names first log' log ws0 us0 us' us ws vs b a ew eu (λ c. sym (alike_turns c us us' so_far)) (λ c. sym (alike_plain c us us' so_far)) d,
+  nexts : (us us' vs ws : List Taken) (rest : List ℕ) → us0 ≡ us ++ vs → ws0 ≡ us' ++ ws → Alike us us' → AreShared names others (doings (first ++ entries_of us))
+      → HaveSameNext rest (λ d. turns_by d vs) (λ d. turns_by d ws) (callers_from 1 t.scripts)
+  nexts us us' vs ws rest eu ew so_far shared = next_turn rest (λ d. turns_by d vs) (λ d. turns_by d ws) t.scripts (λ d. (
+    none_left t steps names others first log log' us0 ws0 us us' vs ws a b eu ew (λ c. alike_turns c us us' so_far) (alike_entries us us' so_far) shared (λ c. alike_plain c us us' so_far) d,
+    none_left t steps others names first log' log ws0 us0 us' us ws vs b a ew eu (λ c. sym (alike_turns c us us' so_far)) (sym (alike_entries us us' so_far))
+        (subst (λ l. AreShared others names (doings (first ++ l))) (alike_entries us us' so_far) (all_back names others (doings (first ++ entries_of us)) shared)) (λ c. sym (alike_plain c us us' so_far)) d,
   ))
 
   not_empty : (rest : List ℕ) (v : Taken) (vs : List Taken) → IsRest rest (v ∷ vs) → turn_order rest (λ d. turns_by d (v ∷ vs)) (callers_from 1 t.scripts) ≡ [] → ⊥
@@ -257,17 +379,18 @@ module _ (t : Table) (steps : ℕ) (names : List Name) (first log log' : List En
   is_empty : (rest more : List ℕ) (c : ℕ) → IsRest rest [] → turn_order rest (λ d. 0) (callers_from 1 t.scripts) ≡ c ∷ more → ⊥
   is_empty rest more c o n = let e : [] ≡ c ∷ more = o ∙ n in cc e
 
-  walk : (us us' vs ws : List Taken) (rest : List ℕ) → us0 ≡ us ++ vs → ws0 ≡ us' ++ ws → Alike us us' → IsRest rest vs → IsRest rest ws → Alike vs ws
-  walk us us' [] [] rest eu ew so_far ov ow = tt
-  walk us us' [] (w ∷ ws) rest eu ew so_far ov ow = elim (nexts us us' [] (w ∷ ws) rest eu ew so_far) [
-    | inl none ↦ not_empty rest w ws ow none.1
-    | inr n ↦ is_empty rest (turn_order n.1 (less n.0 (λ d. 0)) (callers_from 1 t.scripts)) n.0 ov n.2
+  walk : (us us' vs ws : List Taken) (rest : List ℕ) → us0 ≡ us ++ vs → ws0 ≡ us' ++ ws → Alike us us' → AreShared names others (doings (first ++ entries_of us)) → IsRest rest vs → IsRest rest ws
+      → Alike vs ws × AreShared names others (doings (entries_of vs))
+  walk us us' [] [] rest eu ew so_far shared ov ow = (tt, tt)
+  walk us us' [] (w ∷ ws) rest eu ew so_far shared ov ow = elim (nexts us us' [] (w ∷ ws) rest eu ew so_far shared) [
+    | inl none ↦ absurd (not_empty rest w ws ow none.1)
+    | inr n ↦ absurd (is_empty rest (turn_order n.1 (less n.0 (λ d. 0)) (callers_from 1 t.scripts)) n.0 ov n.2)
   ]
-  walk us us' (v ∷ vs) [] rest eu ew so_far ov ow = elim (nexts us us' (v ∷ vs) [] rest eu ew so_far) [
-    | inl none ↦ not_empty rest v vs ov none.0
-    | inr n ↦ is_empty rest (turn_order n.1 (less n.0 (λ d. 0)) (callers_from 1 t.scripts)) n.0 ow n.3
+  walk us us' (v ∷ vs) [] rest eu ew so_far shared ov ow = elim (nexts us us' (v ∷ vs) [] rest eu ew so_far shared) [
+    | inl none ↦ absurd (not_empty rest v vs ov none.0)
+    | inr n ↦ absurd (is_empty rest (turn_order n.1 (less n.0 (λ d. 0)) (callers_from 1 t.scripts)) n.0 ow n.3)
   ]
-  walk us us' (v ∷ vs) (w ∷ ws) rest eu ew so_far ov ow = elim (nexts us us' (v ∷ vs) (w ∷ ws) rest eu ew so_far) [
+  walk us us' (v ∷ vs) (w ∷ ws) rest eu ew so_far shared ov ow = elim (nexts us us' (v ∷ vs) (w ∷ ws) rest eu ew so_far shared) [
     | inl none ↦ absurd (not_empty rest v vs ov none.0)
     | inr n ↦ (
         let one : v.caller ∷ map (λ (u : Taken). u.caller) vs ≡ n.0 ∷ turn_order n.1 (less n.0 (λ d. turns_by d (v ∷ vs))) (callers_from 1 t.scripts) = ov ∙ n.2 in
@@ -276,17 +399,23 @@ module _ (t : Table) (steps : ℕ) (names : List Name) (first log log' : List En
         let mw : w.caller ≡ n.0 = cc two in
         let real : among n.0 (callers_from 1 t.scripts) ≡ true = subst (λ d. among d (callers_from 1 t.scripts) ≡ true) mv
         (among_part (callers_from 1 t.scripts) us (v ∷ vs) (subst (AreAmong (callers_from 1 t.scripts)) eu a.mine)).0 in
-        let same = same_turn us us' vs ws v w n.0 real eu ew so_far mv mw in (
-          mv ∙ sym mw,
-          same,
-          walk (us ++ v ∷ []) (us' ++ w ∷ []) vs ws n.1 (eu ∙ sym (append_assoc us (v ∷ []) vs)) (ew ∙ sym (append_assoc us' (w ∷ []) ws)) (alike_more us us' v w so_far (mv ∙ sym mw) same)
-              (left_behind n.1 v vs n.0 mv one) (left_behind n.1 w ws n.0 mw two),
+        let same = same_turn us us' vs ws v w n.0 real eu ew so_far shared mv mw in
+        let onward : AreShared names others (doings (first ++ entries_of (us ++ v ∷ []))) = subst (AreShared names others)
+        (sym (turn_doings first us [] v v.acts [] (sym (append-nil v.acts)) ∙ append-nil (doings (first ++ entries_of us) ++ v.acts))) (shared_both names others (doings (first ++ entries_of us)) v.acts shared same.1) in
+        let more = walk (us ++ v ∷ []) (us' ++ w ∷ []) vs ws n.1 (eu ∙ sym (append_assoc us (v ∷ []) vs)) (ew ∙ sym (append_assoc us' (w ∷ []) ws)) (alike_more us us' v w so_far (mv ∙ sym mw) same.0) onward
+        (left_behind n.1 v vs n.0 mv one) (left_behind n.1 w ws n.0 mw two) in (
+          (mv ∙ sym mw, same.0, more.0),
+          subst (AreShared names others) (sym (doings_join (entries_by v.caller v.acts) (entries_of vs) ∙ ap (λ l. l ++ doings (entries_of vs)) (doings_by v.caller v.acts))) (shared_both names others v.acts (doings (entries_of vs)) same.1 more.1),
         ))
   ]
 
   -- all turns of two histories of one order are alike
-  pub all_alike : (order : List ℕ) → IsRest order us0 → IsRest order ws0 → Alike us0 ws0
-  all_alike order ov ow = walk [] [] us0 ws0 order refl refl tt ov ow
+  all_alike : (order : List ℕ) → AreShared names others (doings first) → IsRest order us0 → IsRest order ws0 → Alike us0 ws0 × AreShared names others (doings (entries_of us0))
+  all_alike order shared ov ow = walk [] [] us0 ws0 order refl refl tt (subst (λ l. AreShared names others (doings l)) (sym (append-nil first)) shared) ov ow
 
-  pub one_log : (order : List ℕ) → IsRest order us0 → IsRest order ws0 → log ≡ log'
-  one_log order ov ow = a.is ∙ ap (λ l. first ++ l) (alike_entries us0 ws0 (all_alike order ov ow)) ∙ sym b.is
+  pub one_log : (order : List ℕ) → AreShared names others (doings first) → IsRest order us0 → IsRest order ws0 → (log ≡ log') × AreShared names others (doings log)
+  one_log order shared ov ow =
+      let r = all_alike order shared ov ow in (
+        a.is ∙ ap (λ l. first ++ l) (alike_entries us0 ws0 r.0) ∙ sym b.is,
+        subst (AreShared names others) (sym (ap doings a.is ∙ doings_join first (entries_of us0))) (shared_both names others (doings first) (doings (entries_of us0)) shared r.1),
+      )

@@ -8,7 +8,7 @@ use Rattle.hb_types.specs.declared.types.Ty.{Ty}
 use Rattle.hb_types.specs.declared.types.MethodTy.{MethodTy}
 use Rattle.hb_tree.specs.Table.{Table}
 use Rattle.hb_names.specs.declared.names.TheConstants.{NAMES_MAX}
-use Rattle.hb_names.specs.Names.{Name}
+use Rattle.hb_names.specs.Names.{Name, place}
 use Rattle.hb_tables.specs.declared.entry.Act.{Act}
 use Rattle.hb_tables.specs.declared.entry.Act.TheVariants.{Hold, Free, Retype, Busy, WornType, Define, WornDef, Call}
 use Rattle.hb_tables.specs.declared.entry.ArgKinds.{ArgKinds}
@@ -27,6 +27,14 @@ pub data Question : Type 0 where
   Starts : (q key : ℕ) → Question
   Goes : (q key : ℕ) (kinds : List Ty) → Question
   Ends : (q key : ℕ) → Question
+
+-- The same is asked for two lists of names: a name has its key in each of them.
+pub data AsksOne (names others : List Name) : Question → Question → Type 0 where
+  DefineOne : (p : Name) (k j s : ℕ) → place names p ≡ Some k → place others p ≡ Some j → AsksOne names others (Defines k s) (Defines j s)
+  DeclareOne : (p : Name) (k j s : ℕ) → place names p ≡ Some k → place others p ≡ Some j → AsksOne names others (Declares k s) (Declares j s)
+  StartOne : (p : Name) (k j q : ℕ) → place names p ≡ Some k → place others p ≡ Some j → AsksOne names others (Starts q k) (Starts q j)
+  GoOne : (q k : ℕ) (kinds : List Ty) → AsksOne names others (Goes q k kinds) (Goes q k kinds)
+  EndOne : (q k : ℕ) → AsksOne names others (Ends q k) (Ends q k)
 
 -- the act is one of those that may follow
 pub data Answers : Question → Act → Type 0 where
