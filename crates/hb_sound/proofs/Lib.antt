@@ -7,5 +7,7 @@ pub mod CallLemmas
 pub mod ScriptLemmas
 pub mod NodeLemmas
 pub mod PartLemmas
+pub mod FullLemmas
+pub mod FillLemmas
 pub mod LawLemmas
 pub mod Examples

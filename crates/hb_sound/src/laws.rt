@@ -1,6 +1,6 @@
 //! What is true of runs against a legal history.
 
-ghost use Rattle.std.specs.Prelude.{◌≡◌, ℕ, Contains, List, ◌∷◌, map, Option, Some};
+ghost use Rattle.std.specs.Prelude.{◌≡◌, ◌≤◌, length, ℕ, Contains, List, ◌∷◌, map, Option, Some};
 ghost use Rattle.hb_types.specs.declared.ids.BodySite.{BodySite};
 ghost use Rattle.hb_types.specs.declared.ids.CallNo.{CallNo};
 ghost use Rattle.hb_types.specs.declared.ids.KeyId.{KeyId};
@@ -12,6 +12,7 @@ ghost use Rattle.hb_tree.specs.Roots.{IsReachedOnce, roots};
 ghost use Rattle.hb_tree.specs.Table.{Table};
 ghost use Rattle.hb_tree.specs.Tree.{Tree};
 ghost use Rattle.hb_tree.specs.TreeAt.{tree_at};
+ghost use Rattle.hb_names.specs.declared.names.TheConstants.{NAMES_MAX};
 ghost use Rattle.hb_names.specs.Names.{Name};
 ghost use Rattle.hb_tables.specs.declared.entry.Act.TheVariants.{Call};
 ghost use Rattle.hb_tables.specs.declared.entry.ArgKinds.{ArgKinds};
@@ -19,9 +20,11 @@ ghost use Rattle.hb_tables.specs.declared.entry.By.{By};
 ghost use Rattle.hb_tables.specs.declared.entry.Entry.{Entry};
 ghost use Rattle.hb_tables.specs.declared.entry.Verdict.TheVariants.{Enter};
 ghost use Rattle.hb_tables.specs.Frames.{acts};
-ghost use Rattle.hb_tables.specs.History.{IsLegal};
+ghost use Rattle.hb_tables.specs.History.{Every, IsLegal};
 ghost use Rattle.hb_tables.specs.Rows.{HasCallRows, IsDecided, kinds_of, types_in};
+ghost use Rattle.hb_call.specs.Rules.{FitsRules};
 ghost use Rattle.hb_eval.specs.declared.stop.Outcome.TheVariants.{Stopped};
+ghost use Rattle.hb_eval.specs.declared.stop.Stop.TheVariants.{Full};
 ghost use Rattle.hb_eval.specs.declared.stop.Stop.{Stop};
 ghost use Rattle.hb_eval.specs.declared.value.Value.{Value};
 ghost use Rattle.hb_eval.specs.Calls.{call_in};
@@ -76,4 +79,11 @@ pub fn stops_in_bodies_are_named()
     ensures bodies { (t : Table) (names : List Name) (limit : ℕ) (log : List Entry) (c : ℕ) → IsLegal limit log → HasCallRows t names log → IsProgram t → IsReachedOnce t
         → (room block steps : ℕ) (run : Run) (e : Stop) (id : NodeId) → Contains (roots t) block → script_run t names (call_in t names room) block steps (acts c log) ≡ Some run
         → run.outcome ≡ Stopped e id → IsInBody t id.0 → IsNamed e }
+{}
+
+/// A run against a legal history that follows the rules stops with Full only where the list of names is full.
+pub fn full_stops_have_full_lists()
+    ensures { (t : Table) (names : List Name) (limit : ℕ) (log : List Entry) (c : ℕ) → IsLegal limit log → Every (λ before e. FitsRules t names e.caller.0 before e.act) log → length names ≤ NAMES_MAX
+        → (room block steps : ℕ) (run : Run) (id : NodeId) → script_run t names (call_in t names room) block steps (acts c log) ≡ Some run → run.outcome ≡ Stopped Full id
+        → length names ≡ NAMES_MAX }
 {}

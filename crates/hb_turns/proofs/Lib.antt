@@ -3,6 +3,7 @@ mod PlayerLemmas
 mod OrderLemmas
 mod GoneLemmas
 mod FinishLemmas
+mod KnownLemmas
 pub mod RunLemmas
 mod TagLemmas
 mod ThroughLemmas

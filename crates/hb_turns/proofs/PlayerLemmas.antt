@@ -2,16 +2,17 @@
 use Rattle.std.proofs.Common.{◌≡◌, ◌≢◌, ◌⊎◌, inl, inr, ℕ, zero, suc, ◌+◌, ◌<◌, List, [], ◌∷◌, ◌++◌, length, Some, true, false, Bool, refl, sym, ap, ◌∙◌, subst, arith, append_assoc, cond, eqb, eq-eqb}
 use Rattle.std.specs.Prelude.{slice_get, slice_set}
 use Rattle.std.proofs.lemmas.Bool.Decides.{eqb_tells}
-use Rattle.std.proofs.lemmas.List.{append-nil}
+use Rattle.std.proofs.lemmas.List.{append-nil, append_cancel_left}
 use mathlib.Core.List.{IsPrefix}
 use Rattle.hb_tree.specs.Table.{Table}
 use Rattle.hb_names.specs.Names.{Name}
 use Rattle.hb_tables.specs.declared.entry.Act.{Act}
 use Rattle.hb_tables.specs.declared.entry.Entry.{Entry}
+use Rattle.hb_call.specs.GrowthLaws.{prefix_itself, prefix_more}
 use Rattle.hb_eval.specs.State.{tagged}
 use Rattle.hb_turns.specs.declared.player.Player.{Player}
 use Rattle.hb_turns.specs.Playing.{AreNumbered, Came, HasNumber, IsAt, IsNumbered, IsUnderWay, Plays, Taken, Took, acts_by, entries_by, entries_of, turns_by}
-use Rattle.hb_turns.specs.Players.{ArePlayers, IsPlayer, TookTurn}
+use Rattle.hb_turns.specs.Players.{ArePlayers, IsPlayer, StoodAtLast, StoodThen, TookTurn}
 use Rattle.hb_turns.proofs.PlayingLemmas.{others_acts, own_came, plays_on}
 
 -- ── one turn more ──
@@ -127,6 +128,62 @@ numbers_more us u all one before after x is = go us before is (λ b a y e. all b
       | inr h ↦ f xs h.0 x h.1
     ]
 
+set_same : (ps : List Player) (at : ℕ) (q : Player) → at < length ps → slice_get (slice_set ps at q) at ≡ Some q
+set_same [] at q low = absurd (omega (arith, low))
+set_same (p ∷ ps) zero q low = refl
+set_same (p ∷ ps) (suc at) q low = set_same ps at q (omega (arith, low))
+
+set_other : (ps : List Player) (at i : ℕ) (q : Player) → i ≢ at → slice_get (slice_set ps at q) i ≡ slice_get ps i
+set_other [] zero i q apart = refl
+set_other [] (suc at) i q apart = refl
+set_other (p ∷ ps) zero zero q apart = absurd (apart refl)
+set_other (p ∷ ps) zero (suc i) q apart = refl
+set_other (p ∷ ps) (suc at) zero q apart = refl
+set_other (p ∷ ps) (suc at) (suc i) q apart = set_other ps at i q (λ same. apart (ap suc same))
+
+-- Where a turn comes, it is its caller's last one, and what was so for the others' last ones stays so.
+stood_more : (t : Table) (limit steps first at : ℕ) (start : List Entry) (us : List Taken) (w : Taken) (names longer : List Name) (new : List Entry) (ps : List Player) (q : Player)
+    → w.caller ≡ first + at → at < length ps → IsPrefix names longer → new ≡ start ++ entries_of (us ++ w ∷ []) → IsUnderWay t limit longer new → IsPlayer t steps (first + at) longer new (us ++ w ∷ []) q
+    → StoodAtLast t limit steps first start us names ps → StoodAtLast t limit steps first start (us ++ w ∷ []) longer (slice_set ps at q)
+stood_more t limit steps first at start us w names longer new ps q mine below more log under_way moved stood before after x is none = elim (last_or us before after w x is) [
+  | inl h ↦ subst (λ (y : Taken). StoodThen t limit steps first y.caller start (before ++ y ∷ []) longer (slice_set ps at q)) h.1
+      (subst (λ (b : List Taken). StoodThen t limit steps first w.caller start (b ++ w ∷ []) longer (slice_set ps at q)) h.0 last)
+  | inr h ↦ earlier h.0 h.1
+]
+  where
+    last : StoodThen t limit steps first w.caller start (us ++ w ∷ []) longer (slice_set ps at q)
+    last = record {
+      at = at;
+      mine = mine;
+      player = q;
+      there = set_same ps at q below;
+      known = longer;
+      named = prefix_itself longer;
+      under_way = subst (IsUnderWay t limit longer) log under_way;
+      plays = subst (λ (l : List Entry). Plays t steps w.caller longer l (acts_by w.caller (us ++ w ∷ [])) q.machine) log
+          (subst (λ (c : ℕ). Plays t steps c longer new (acts_by c (us ++ w ∷ [])) q.machine) (sym mine) moved.plays);
+    }
+
+    earlier : (a : List Taken) → us ≡ before ++ x ∷ a → StoodThen t limit steps first x.caller start (before ++ x ∷ []) longer (slice_set ps at q)
+    earlier a e =
+        let whole : before ++ (x ∷ (a ++ w ∷ [])) ≡ before ++ (x ∷ after) = sym (append_assoc before (x ∷ a) (w ∷ [])) ∙ ap (λ l. l ++ w ∷ []) (sym e) ∙ is in
+        let rest : x ∷ (a ++ w ∷ []) ≡ x ∷ after = append_cancel_left before (x ∷ (a ++ w ∷ [])) (x ∷ after) whole in
+        let behind : a ++ w ∷ [] ≡ after = cc rest in
+        let idle : turns_by x.caller (a ++ w ∷ []) ≡ 0 = ap (turns_by x.caller) behind ∙ none in
+        let count = turns_more x.caller a w in
+        let s = stood before a x e (omega (arith, idle, count)) in
+        let apart : s.at ≢ at = λ same. (let one = turn_mine x.caller a w (mine ∙ ap (λ i. first + i) (sym same) ∙ sym s.mine) in omega (arith, idle, one)) in
+        record {
+          at = s.at;
+          mine = s.mine;
+          player = s.player;
+          there = set_other ps at s.at q apart ∙ s.there;
+          known = s.known;
+          named = prefix_more s.known names longer s.named more;
+          under_way = s.under_way;
+          plays = s.plays;
+        }
+
 pub took_turn : (t : Table) (limit first at : ℕ) (names longer : List Name) (old new : List Entry) (ps : List Player) (p q : Player) → slice_get ps at ≡ Some p → at < length ps → p.over ≡ false
     → Took t (first + at) names longer old new p.machine q.machine → IsUnderWay t limit longer new → IsAt q.over q.machine
     → ((turns : ℕ) → IsNumbered p.over p.machine.state.begun turns → IsNumbered q.over q.machine.state.begun (turns + 1))
@@ -152,12 +209,14 @@ took_turn t limit first at names longer old new ps p q is below goes_on took und
         at = here;
         numbered = subst (λ (n : ℕ). IsNumbered q.over q.machine.state.begun n) (sym (turn_mine (first + at) us u refl)) (numbered (turns_by (first + at) us) x.numbered);
       } in
+      let log : new ≡ start ++ entries_of (us ++ u ∷ []) = sym took.came.is ∙ ap (λ (l : List Entry). l ++ entries_by (first + at) took.more) had.is ∙ append_assoc start (entries_of us) (entries_by (first + at) took.more)
+      ∙ ap (λ (l : List Entry). start ++ l) (sym (entries_more us u)) in
       record {
-        is = sym took.came.is ∙ ap (λ (l : List Entry). l ++ entries_by (first + at) took.more) had.is ∙ append_assoc start (entries_of us) (entries_by (first + at) took.more)
-            ∙ ap (λ (l : List Entry). start ++ l) (sym (entries_more us u));
+        is = log;
         numbers = numbers_more us u had.numbers (turn_number q.over q.machine.state.begun (turns_by (first + at) us) (numbered (turns_by (first + at) us) x.numbered));
         under_way = under_way;
         players = moved_players t steps first at u names longer old new us ps q refl below took.came more moved had.players;
+        stood = stood_more t limit steps first at start us u names longer new ps q refl below more log under_way moved had.stood;
         alone = λ none.
             let a = had.alone none in
             let only : first + at ≡ 0 = (let one = a.1 in omega (arith, none, one, below)) in

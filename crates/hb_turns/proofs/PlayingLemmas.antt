@@ -37,7 +37,7 @@ pub acts_by_itself : (c : ℕ) (l : List Act) → acts c (entries_by c l) ≡ l
 acts_by_itself c [] = refl
 acts_by_itself c (a ∷ l) = (let is = eq-eqb c c refl in rw is (ap (λ (x : List Act). a ∷ x) (acts_by_itself c l)))
 
-acts_by_other : (c d : ℕ) (l : List Act) → c ≢ d → acts d (entries_by c l) ≡ []
+pub acts_by_other : (c d : ℕ) (l : List Act) → c ≢ d → acts d (entries_by c l) ≡ []
 acts_by_other c d [] apart = refl
 acts_by_other c d (a ∷ l) apart = elim (eqb_tells d c) [
   | inl same ↦ absurd (apart (sym same.1))

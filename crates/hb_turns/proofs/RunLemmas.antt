@@ -18,6 +18,7 @@ use Rattle.hb_turns.specs.Playing.{IsUnderWay, Taken, turns_by}
 use Rattle.hb_turns.specs.Players.{AreFinished, AreOver, ArePlayers, GoOn, HasRun, HaveGone, HavePlayed, IsOrdered, ScriptsRan, turn_order, turns_left}
 use Rattle.hb_turns.proofs.FinishLemmas.{run_is, runs_are}
 use Rattle.hb_run.proofs.HistoryLemmas.{HasEntry, IsAskedBy, entry_behind, in_asked_after, key-below, used_all}
+use Rattle.hb_turns.proofs.KnownLemmas.{all_then}
 use Rattle.hb_turns.proofs.OrderLemmas.{order_ends}
 use Rattle.hb_turns.proofs.TagLemmas.{tagged_are}
 
@@ -37,6 +38,7 @@ played_none t limit steps names log ps under_way own ready = record {
   numbers = λ before after u is. absurd (none before after u is);
   under_way = under_way;
   players = ready names log (λ c from. own_idle 0 c log (λ is. omega (arith, is, from)) own);
+  stood = λ before after u is last. absurd (none before after u is);
   alone = λ none. absurd (omega (arith, none));
   setup = λ from. refl;
 }
@@ -63,6 +65,7 @@ scripts_ran t limit steps order names mid longer old between new first ps qs was
       named = g.named;
       setup = h.setup (omega arith);
       runs = runs_are t steps 1 longer new g.turns t.scripts qs more (many ∙ sym g.many) h.under_way.few h.players finished;
+      all_by_then = all_then t limit steps 1 old g.turns longer new qs more h finished;
     }
 
 -- ── the history ──
@@ -127,6 +130,7 @@ ordered_none t limit steps order names log was now none empty ran =
       in_order = ran.in_order;
       tagged = inr ran.tagged;
       asked = ran.under_way.asked names (prefix_itself names);
+      all_by_then = ran.all_by_then;
     }
 
 -- behind a setup that is done
@@ -149,6 +153,7 @@ ordered_done t limit steps order names longer old new block r was now some one o
       in_order = ran.in_order;
       tagged = inr ran.tagged;
       asked = ran.under_way.asked longer (prefix_itself longer);
+      all_by_then = ran.all_by_then;
     }
 
 -- behind a setup that stopped
@@ -170,6 +175,7 @@ ordered_stopped t limit steps order names log block r now some one own u has sto
       in_order = sym (no_turns order);
       tagged = inl refl;
       asked = u.asked names (prefix_itself names);
+      all_by_then = λ before after u is last. absurd (none_taken before after u is);
     }
   where
     mine : (xs before after : List Entry) (e : Entry) → AreOwn 0 xs → xs ≡ before ++ e ∷ after → e.caller.0 ≡ 0

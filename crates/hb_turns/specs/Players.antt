@@ -12,6 +12,8 @@ use Rattle.hb_tables.specs.Plain.{AreOwn}
 use Rattle.hb_call.specs.Growth.{asked_after}
 use Rattle.hb_eval.specs.Calls.{call_in}
 use Rattle.hb_eval.specs.declared.machine.Machine.{Machine}
+use Rattle.hb_eval.specs.declared.stop.Outcome.TheVariants as outcome
+use Rattle.hb_eval.specs.declared.stop.Stop.TheVariants as stop
 use Rattle.hb_eval.specs.Machines.{Finishes, StandsFor}
 use Rattle.hb_eval.specs.Runs.{Run, script_run}
 use Rattle.hb_eval.specs.Told.{Told, told, told_by}
@@ -31,12 +33,29 @@ abbrev pub ArePlayers : Table → (steps c : ℕ) → List Name → List Entry �
 ArePlayers t steps c names log us [] = Unit {0}
 ArePlayers t steps c names log us (p ∷ ps) = IsPlayer t steps c names log us p × ArePlayers t steps (suc c) names log us ps
 
+-- Behind these turns of the caller and others so many names were known, and the caller's player stood as it stands now.
+pub record StoodThen (t : Table) (limit steps first c : ℕ) (start : List Entry) (us : List Taken) (names : List Name) (ps : List Player) : Type 0 where
+  pub at : ℕ
+  pub mine : c ≡ first + at
+  pub player : Player
+  pub there : slice_get ps at ≡ Some player
+  pub known : List Name
+  pub named : IsPrefix known names
+  pub under_way : IsUnderWay t limit known (start ++ entries_of us)
+  pub plays : Plays t steps c known (start ++ entries_of us) (acts_by c us) player.machine
+
+-- so it was behind each turn whose caller took no later one
+abbrev pub StoodAtLast : Table → (limit steps first : ℕ) → (start : List Entry) → List Taken → List Name → List Player → Type 0
+StoodAtLast t limit steps first start us names ps = (before after : List Taken) (u : Taken) → us ≡ before ++ u ∷ after → turns_by u.caller after ≡ 0
+    → StoodThen t limit steps first u.caller start (before ++ u ∷ []) names ps
+
 -- The callers from the first on took these turns behind a history. Where the first is the setup's it plays alone.
 pub record HavePlayed (t : Table) (limit steps first : ℕ) (start : List Entry) (us : List Taken) (names : List Name) (log : List Entry) (ps : List Player) : Type 0 where
   pub is : log ≡ start ++ entries_of us
   pub numbers : AreNumbered us
   pub under_way : IsUnderWay t limit names log
   pub players : ArePlayers t steps first names log us ps
+  pub stood : StoodAtLast t limit steps first start us names ps
   pub alone : first ≡ 0 → AreOwn 0 log × (length ps ≡ 1)
   pub setup : 1 ≤ first → acts 0 log ≡ acts 0 start
 
@@ -156,6 +175,12 @@ abbrev pub AreTagged : Table → List Name → (steps : ℕ) → List Entry → 
 AreTagged t names steps log us [] = Unit {0}
 AreTagged t names steps log us (c ∷ cs) = IsTagged t names steps log us c × AreTagged t names steps log us cs
 
+-- Where the caller of a turn takes no later one, and its run stopped since the list of names is full, each of the names is that of a key up to the end of the turn.
+abbrev pub AreAllByThen : Table → (steps : ℕ) → List Name → (start log : List Entry) → List Taken → Type 0
+AreAllByThen t steps names start log us = (before after : List Taken) (u : Taken) → us ≡ before ++ u ∷ after → turns_by u.caller after ≡ 0
+    → (block : NodeId) (run : Run) (id : NodeId) → block_of t u.caller ≡ Some block → script_run t names (call_in t names 4096) block.0 steps (acts u.caller log) ≡ Some run
+    → run.outcome ≡ outcome.Stopped stop.Full id → names ≡ asked_after names [] (map (λ e. e.act) (start ++ entries_of (before ++ u ∷ [])))
+
 -- The history that turns fix: the setup's entries, and behind them turn by turn the acts of that turn's caller. Whose the turns are says the order, where each script takes as many as it took.
 pub record IsOrdered (t : Table) (limit steps : ℕ) (order : List ℕ) (names : List Name) (log : List Entry) (runs : List Told) : Type 0 where
   pub history : IsHistory t limit steps names log runs
@@ -167,6 +192,7 @@ pub record IsOrdered (t : Table) (limit steps : ℕ) (order : List ℕ) (names :
   pub in_order : map (λ u. u.caller) turns ≡ turn_order order (λ c. turns_by c turns) (callers_from 1 t.scripts)
   pub tagged : turns ≡ [] ⊎ AreTagged t names steps log turns (callers_from 1 t.scripts)
   pub asked : names ≡ asked_after names [] (map (λ e. e.act) log)
+  pub all_by_then : AreAllByThen t steps names start log turns
 
 -- The scripts ran by turns behind a setup that is done, or behind none. Their runs come behind what was there.
 pub record ScriptsRan (t : Table) (limit steps : ℕ) (order : List ℕ) (names longer : List Name) (old new : List Entry) (was now : List ScriptRun) : Type 0 where
@@ -181,3 +207,4 @@ pub record ScriptsRan (t : Table) (limit steps : ℕ) (order : List ℕ) (names 
   pub named : IsPrefix names longer
   pub setup : acts 0 new ≡ acts 0 old
   pub runs : AreRuns t longer steps new (callers_from 1 t.scripts) (map told_by more)
+  pub all_by_then : AreAllByThen t steps longer old new turns
