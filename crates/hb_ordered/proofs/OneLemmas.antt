@@ -28,9 +28,9 @@ use Rattle.hb_run.specs.History.{AreAllRuns, AreRuns, HasCaller, IsHistory, IsRu
 use Rattle.hb_ordered.specs.Asking.{IsAnswer}
 use Rattle.hb_ordered.specs.Parting.{FirstLacks, GoOn, Lacks, Neither, Part, Parted, Parting, SecondLacks}
 use Rattle.hb_ordered.specs.Sharing.{AreShared, IsShared, Meet, NotFull}
-use Rattle.hb_ordered.specs.Turns.{AreAllByThen, AreAmong, among}
+use Rattle.hb_ordered.specs.Turns.{AreAmong, among}
 use Rattle.hb_turns.specs.Playing.{AreNumbered, Taken, entries_by, entries_of, turns_by}
-use Rattle.hb_turns.specs.Players.{AreTagged, IsOrdered, turn_order}
+use Rattle.hb_turns.specs.Players.{AreAllByThen, AreTagged, IsOrdered, turn_order}
 use Rattle.hb_turns.proofs.PlayingLemmas.{acts_by_itself}
 use Rattle.hb_turns.proofs.RunLemmas.{own_idle}
 use Rattle.hb_ordered.proofs.AlongLemmas.{runs_part, untagged}

@@ -26,12 +26,12 @@ use Rattle.hb_eval.specs.Runs.{Run, script_run}
 use Rattle.hb_eval.specs.State.{tagged}
 use Rattle.hb_run.specs.History.{block_of, callers_from}
 use Rattle.hb_turns.specs.Playing.{AreNumbered, Taken, acts_by, entries_by, entries_of, turns_by}
-use Rattle.hb_turns.specs.Players.{AreTagged, IsTagged, less, turn_order, turns_for}
+use Rattle.hb_turns.specs.Players.{AreAllByThen, AreTagged, IsTagged, less, turn_order, turns_for}
 use Rattle.hb_turns.proofs.PlayingLemmas.{acts_by_itself}
 use Rattle.hb_turns.proofs.RunLemmas.{own_idle}
 use Rattle.hb_ordered.specs.Parting.{FirstLacks, GoOn, Neither, Parted, Parting, SecondLacks}
 use Rattle.hb_ordered.specs.Sharing.{AreShared, IsShared, NotFull}
-use Rattle.hb_ordered.specs.Turns.{AreAllByThen, AreAmong, among, HaveSameNext}
+use Rattle.hb_ordered.specs.Turns.{AreAmong, among, HaveSameNext}
 use Rattle.hb_ordered.proofs.AnswerLemmas.{all_back}
 use Rattle.hb_ordered.proofs.NamesLemmas.{acts_shared, asked_begins, doings, doings_by, doings_join, prefix_never, shared_both, shared_parts}
 use Rattle.hb_ordered.proofs.AlongLemmas.{runs_part}

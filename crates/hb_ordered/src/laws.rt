@@ -15,7 +15,7 @@ ghost use Rattle.hb_types.specs.declared.ids.NodeId.{NodeId};
 ghost use Rattle.hb_types.specs.declared.ids.NameId.{NameId};
 ghost use Rattle.hb_run.specs.History.{callers_from};
 ghost use Rattle.hb_eval.specs.Told.{Told};
-ghost use Rattle.hb_ordered.specs.Turns.{AreAllByThen, HaveSameNext, SameLeft};
+ghost use Rattle.hb_ordered.specs.Turns.{HaveSameNext, SameLeft};
 ghost use Rattle.hb_turns.specs.Players.{IsOrdered};
 ghost use Rattle.hb_ordered.specs.Asking.{AsksOne, Question, FitsArguments, IsAsked, IsAnswer};
 ghost use Rattle.hb_ordered.specs.Sharing.{AreShared, IsShared, Meet, NotFull};
@@ -49,9 +49,8 @@ pub fn next_turns_are_one()
     ensures { (order : List ℕ) (left other : ℕ → ℕ) (scripts : List (NameId × NodeId)) → SameLeft left other → HaveSameNext order left other (callers_from 1 scripts) }
 {}
 
-/// An order has one history, with one list of names and one list of runs: where each of the names is that of a key by the end of each turn in which a script stops since the list is full.
+/// An order has one history, with one list of names and one list of runs.
 pub fn an_order_has_one_history()
     ensures { (t : Table) (limit steps : ℕ) (order : List ℕ) (names others : List Name) (log log' : List Entry) (runs runs' : List Told)
-        (a : IsOrdered t limit steps order names log runs) (b : IsOrdered t limit steps order others log' runs')
-        → AreAllByThen t steps names a.start log a.turns → AreAllByThen t steps others b.start log' b.turns → (names ≡ others) × (log ≡ log') × (runs ≡ runs') }
+        → IsOrdered t limit steps order names log runs → IsOrdered t limit steps order others log' runs' → (names ≡ others) × (log ≡ log') × (runs ≡ runs') }
 {}
