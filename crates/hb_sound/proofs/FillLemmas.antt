@@ -1,5 +1,6 @@
 -- A run stops with Full only where the list of names is full.
-use Rattle.std.proofs.Common.{◌≡◌, inl, inr, ℕ, zero, suc, ◌+◌, ◌≤◌, Bool, true, false, List, [], ◌∷◌, ◌++◌, length, map, Option, Some, None, refl, sym, ap, ◌∙◌, subst, append_assoc, nat_eq, nat_le, arith}
+use Rattle.std.proofs.Common.{◌≡◌, ℕ, zero, suc, ◌+◌, ◌≤◌, Bool, true, false, List, [], ◌∷◌, ◌++◌, length, map, Option, Some, None}
+use Rattle.std.proofs.Common.{refl, sym, ap, ◌∙◌, subst, append_assoc, nat_eq, nat_le, arith}
 use Rattle.std.proofs.lemmas.Bool.{eqb-true}
 use Rattle.std.specs.Prelude.{Result, Ok, Err, ℤ, ◌&&◌, ◌||◌, ◌+ℤ◌, ◌-ℤ◌, ◌*ℤ◌, if◌then◌else◌}
 use Rattle.std.specs.List.{AllByRecursion}
@@ -42,8 +43,8 @@ use Rattle.hb_eval.specs.Runs.{Run, ended, run_of, script_run, start}
 use Rattle.hb_eval.specs.State.{Bindings, St, Answer, Lost, Done, Halt, then_do, gives, begin, value_at, read_act, meant, next_act, reads}
 use Rattle.hb_eval.specs.Methods.{is_name, named, with_key, define_meaning, declare_meaning, changed, unchanged, define, declare}
 use Rattle.hb_eval.specs.Meaning.{Calls, variable, self_value, printed, turns, loop, ev, ev_items, ev_arguments}
-use Rattle.hb_eval.specs.Calls.{acts_before, bindings, call_in, called, decided, leave, numbered, read_frees, read_to, receiver, received, run_body}
-use Rattle.hb_sound.proofs.FullLemmas.{BeganAndGaveBack, HasGone, IsBefore, WasRead, call_gone, freed_taken, full_here}
+use Rattle.hb_eval.specs.Calls.{bindings, call_in, called, decided, leave, numbered, read_frees, read_to, receiver, received, run_body}
+use Rattle.hb_sound.proofs.FullLemmas.{HasGone, IsBefore, call_gone, freed_taken, full_here}
 
 -- a stop with Full has this
 abbrev pub Fills : Type 0 → Stop → Type 0
@@ -264,7 +265,8 @@ module _ (t : Table) (names : List Name) (limit : ℕ) (log : List Entry) (c : �
           (λ v s p. filled_then (ev t names call b s) _ (filled_ev b s p) (λ w s p. filled_gives id (operate o v w) (operate_fills (length names ≡ NAMES_MAX) o v w) s p))) s p
       filled_ev (TIf id c a b) s p = filled_begin id _ (λ s p. filled_then (ev t names call c s) _ (filled_ev c s p) (λ v s p. filled_if (is_false v) _ _ (filled_ev b s p) (filled_ev a s p))) s p
       filled_ev (TWhile id c b) s p = filled_begin id _ (λ s p. filled_loop (ev t names call c) (ev t names call b) (λ s p. filled_ev c s p) (λ s p. filled_ev b s p) s p) s p
-      filled_ev (TCall id r m args) s p = filled_begin id _ (λ s p. filled_then (ev t names call r s) _ (filled_ev r s p) (λ v s p. filled_args args [] (λ vs s. call id v m vs s) (λ vs s p. ok id v m vs s p) s p)) s p
+      filled_ev (TCall id r m args) s p = filled_begin id _ (λ s p. filled_then (ev t names call r s) _ (filled_ev r s p)
+          (λ v s p. filled_args args [] (λ vs s. call id v m vs s) (λ vs s p. ok id v m vs s p) s p)) s p
       filled_ev (TDef id c m site b) s p = filled_begin id _ (λ s p. filled_define id (c, bytes_at t.names m) site s p) s p
       filled_ev (TDefComputed id c e site b) s p = filled_begin id _
           (λ s p. filled_then (ev t names call e s) _ (filled_ev e s p) (λ v s p. filled_named id v _ (λ bytes s p. filled_define id (c, bytes) site s p) s p)) s p
@@ -321,8 +323,8 @@ module _ (t : Table) (names : List Name) (limit : ℕ) (log : List Entry) (c : �
   filled_received id _ go k s p = tt
 
   module _ (legal : IsLegal limit log) (rules : Every (λ before e. FitsRules t names e.caller.0 before e.act) log) (few : length names ≤ NAMES_MAX) where
-    filled_called : (run : ℕ → St → Answer) → ((block : ℕ) → Keeps (run block)) → (id key : ℕ) (d : ClassId) (args : List Value) (r : Read) (s : St) → IsLeft log c s.next s.journal → HasGone s.next key s.journal r
-        → IsFilled names log c (called t run id d args r s)
+    filled_called : (run : ℕ → St → Answer) → ((block : ℕ) → Keeps (run block)) → (id key : ℕ) (d : ClassId) (args : List Value) (r : Read) (s : St)
+        → IsLeft log c s.next s.journal → HasGone s.next key s.journal r → IsFilled names log c (called t run id d args r s)
     unfolding Keeps IsFilled HasGone
     filled_called run k id key d args NoCall s p h = tt
     filled_called run k id key d args (FullAt rest) s p h = full_here t names limit log c legal rules few s.next key p.front s.journal p.is p.before h

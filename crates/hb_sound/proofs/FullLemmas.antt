@@ -1,5 +1,6 @@
 -- Where a call ends since the list of names is full, the list is.
-use Rattle.std.proofs.Common.{◌≡◌, inl, inr, ℕ, zero, suc, ◌+◌, ◌<◌, ◌≤◌, Bool, true, false, cond, eqb, List, [], ◌∷◌, ◌++◌, length, Option, Some, None, sym, refl, ap, ◌∙◌, subst, arith, nat_eq, ne_eqb, eq-eqb, append_assoc}
+use Rattle.std.proofs.Common.{◌≡◌, inl, inr, ℕ, zero, suc, ◌+◌, ◌<◌, ◌≤◌, Bool, true, false, cond, eqb, List, [], ◌∷◌, ◌++◌, length, Option, Some, None}
+use Rattle.std.proofs.Common.{sym, refl, ap, ◌∙◌, subst, arith, nat_eq, ne_eqb, eq-eqb, append_assoc}
 use Rattle.std.specs.Prelude.{◌&&◌, if◌then◌else◌}
 use Rattle.std.specs.List.{AllByRecursion}
 use Rattle.std.proofs.lemmas.Bool.{eqb-true}
@@ -29,7 +30,7 @@ use Rattle.hb_tables.proofs.StandingLemmas.{held_stands, standing_append}
 use Rattle.hb_call.specs.GrowthLaws.{has_call_on}
 use Rattle.hb_call.specs.Held.{HasCall, stands}
 use Rattle.hb_call.specs.Reading.{Read, Called, FullAt, Lost, freed, refused_at, full_at, called, same_kinds, decision, call_of, takes_at}
-use Rattle.hb_call.specs.Rules.{Began, FitsFree, FitsRules, GivesUp, IsFullRightly, Retreats}
+use Rattle.hb_call.specs.Rules.{Began, FitsFree, FitsRules, Retreats}
 use Rattle.hb_call.proofs.HeldLemmas.{count_head}
 
 -- ── what a call reads ──
@@ -103,7 +104,8 @@ unfolding HasTaken
 full_taken q k p j l None mine same = tt
 full_taken q k p j l (Some rest) mine same = record { on = []; number = p; key = j; behind = l; is = refl; of_call = mine; of_key = same; way = tt }
 
-call_taken : (q k : ℕ) (p : CallNo) (j : KeyId) (site : Option BodySite) (args : ArgKinds) (v : Verdict) (held : List Stand) (l : List Act) → p.0 ≡ q → HasTaken q k (Call p j site args v ∷ l) (called q site v held l)
+call_taken : (q k : ℕ) (p : CallNo) (j : KeyId) (site : Option BodySite) (args : ArgKinds) (v : Verdict) (held : List Stand) (l : List Act) → p.0 ≡ q
+    → HasTaken q k (Call p j site args v ∷ l) (called q site v held l)
 unfolding HasTaken
 call_taken q k p j site args v held l mine = by v
   where
@@ -128,7 +130,8 @@ decision_taken fits q k kinds held (Hold p j ty n ∷ l) = taken_if q k (Hold p 
 decision_taken fits q k kinds held (Free p j ∷ l) = taken_if q k (Free p j ∷ l) (fits && nat_eq p.0 q) _ Lost
     (λ e. taken_if q k (Free p j ∷ l) (nat_eq j.0 k) _ _ (λ is. full_taken q k p j l (freed q held (Free p j ∷ l)) (eqb-true p.0 q (and_both _ _ e).1) (eqb-true j.0 k is))
     (λ apart. taken_behind q k (Free p j) l _ apart (decision_taken fits q k kinds (all_but j.0 held) l))) (λ e. tt)
-decision_taken fits q k kinds held (Call p j site args v ∷ l) = taken_if q k (Call p j site args v ∷ l) (nat_eq p.0 q && nat_eq j.0 k && same_kinds kinds (kinds_of args)) (called q site v held l) Lost
+decision_taken fits q k kinds held (Call p j site args v ∷ l) = taken_if q k (Call p j site args v ∷ l)
+    (nat_eq p.0 q && nat_eq j.0 k && same_kinds kinds (kinds_of args)) (called q site v held l) Lost
     (λ e. call_taken q k p j site args v held l (eqb-true p.0 q (and_both _ _ (and_both _ _ e).0).0)) (λ e. tt)
 decision_taken _ _ _ _ _ _ = tt
 
@@ -161,7 +164,8 @@ call_gone t q k kinds (Hold p j ty n ∷ l) = go (nat_eq p.0 q && nat_eq j.0 k) 
   where
     go : (b : Bool) → (nat_eq p.0 q && nat_eq j.0 k) ≡ b
         → HasGone q k (Hold p j ty n ∷ l) (if b then decision (takes_at t ty kinds) q k kinds (record { key = j.0; ty = ty; changes = n } ∷ []) l else Lost)
-    go true e = let both = and_both _ _ e in gone_of q k p j ty n l _ (eqb-true p.0 q both.0) (eqb-true j.0 k both.1) (decision_taken (takes_at t ty kinds) q k kinds (record { key = j.0; ty = ty; changes = n } ∷ []) l)
+    go true e = let both = and_both _ _ e in gone_of q k p j ty n l _ (eqb-true p.0 q both.0) (eqb-true j.0 k both.1)
+        (decision_taken (takes_at t ty kinds) q k kinds (record { key = j.0; ty = ty; changes = n } ∷ []) l)
     go false e = tt
 call_gone _ _ _ _ _ = tt
 
@@ -204,7 +208,8 @@ first_stays : (q k : ℕ) (h : Stand) (hs : List Stand) (l : List Act) → h.key
 first_stays q k h hs [] is keeps = (hs, refl)
 first_stays q k h hs (Hold p j ty n ∷ l) is keeps = go (eqb q p.0) (first_stays q k h (hs ++ record { key = j.0; ty = ty; changes = n } ∷ []) l is keeps.1) (first_stays q k h hs l is keeps.1)
   where
-    go : (b : Bool) → (rest : List Stand) × (standing_from q (h ∷ (hs ++ record { key = j.0; ty = ty; changes = n } ∷ [])) l ≡ h ∷ rest) → (rest : List Stand) × (standing_from q (h ∷ hs) l ≡ h ∷ rest)
+    go : (b : Bool) → (rest : List Stand) × (standing_from q (h ∷ (hs ++ record { key = j.0; ty = ty; changes = n } ∷ [])) l ≡ h ∷ rest)
+        → (rest : List Stand) × (standing_from q (h ∷ hs) l ≡ h ∷ rest)
         → (rest : List Stand) × (standing_from q (cond b (h ∷ (hs ++ record { key = j.0; ty = ty; changes = n } ∷ [])) (h ∷ hs)) l ≡ h ∷ rest)
     go true x y = x
     go false x y = y
@@ -286,7 +291,8 @@ no_call_on q k (Define key site ∷ l) h = absurd h.0
 no_call_on q k (WornDef key ∷ l) h = absurd h.0
 no_call_on q k (Call p key site args v ∷ l) h = absurd h.0
 
-module _ (t : Table) (names : List Name) (limit : ℕ) (log : List Entry) (c : ℕ) (legal : IsLegal limit log) (rules : Every (λ before e. FitsRules t names e.caller.0 before e.act) log) (few : length names ≤ NAMES_MAX) where
+module _ (t : Table) (names : List Name) (limit : ℕ) (log : List Entry) (c : ℕ) (legal : IsLegal limit log)
+    (rules : Every (λ before e. FitsRules t names e.caller.0 before e.act) log) (few : length names ≤ NAMES_MAX) where
   -- a retreat gives back another key than the first
   no_retreat : (q : CallNo) (key : KeyId) (start mid after : List Entry) → log ≡ mid ++ entry c (Free q key) ∷ after → Began c q key start mid → Retreats c q key mid → ⊥
   no_retreat q key start mid after is b r =

@@ -25,7 +25,9 @@ use Rattle.hb_turns.proofs.PlayingLemmas.{acts_by_other}
 
 -- a full list does not grow
 full_is_all : (known names : List Name) → IsPrefix known names → length known ≡ NAMES_MAX → length names ≤ NAMES_MAX → names ≡ known
-full_is_all known names more full few = sym more.1 ∙ ap (λ l. known ++ l) (nothing more.0 (let n = ap length more.1 in let a = length-append known more.0 in omega (arith, n, a, full, few))) ∙ append-nil known
+full_is_all known names more full few =
+    let n = ap length more.1 in let a = length-append known more.0 in
+    sym more.1 ∙ ap (λ l. known ++ l) (nothing more.0 (omega (arith, n, a, full, few))) ∙ append-nil known
   where
     nothing : (l : List Name) → length l ≡ 0 → l ≡ []
     nothing [] e = refl
@@ -63,7 +65,8 @@ all_then t limit steps first start us names log ps rs h finished before after u 
     let then = f.1 t s.known s.known s.plays.block.0 steps done s.plays.stands (prefix_itself s.known) s.under_way.few in
     let now = f.1 t s.known names s.plays.block.0 steps done s.plays.stands s.named h.under_way.few in
     let whole : log ≡ past ++ entries_of after =
-    h.is ∙ ap (λ l. start ++ entries_of l) (is ∙ sym (append_assoc before (u ∷ []) after)) ∙ ap (λ l. start ++ l) (entries_parts upto after) ∙ sym (append_assoc start (entries_of upto) (entries_of after)) in
+    h.is ∙ ap (λ l. start ++ entries_of l) (is ∙ sym (append_assoc before (u ∷ []) after)) ∙ ap (λ l. start ++ l) (entries_parts upto after)
+    ∙ sym (append_assoc start (entries_of upto) (entries_of after)) in
     let own : acts c log ≡ acts c past = ap (acts c) whole ∙ acts_append c past (entries_of after) ∙ ap (λ l. acts c past ++ l) (idle c after none) ∙ append-nil (acts c past) in
     let same : block ≡ s.plays.block = same_Some block s.plays.block (sym runs ∙ s.plays.runs) in
     let again : script_run t names (call_in t names 4096) s.plays.block.0 steps (map (λ e. e.1) done) ≡ Some run =

@@ -143,8 +143,8 @@ set_other (p ∷ ps) (suc at) (suc i) q apart = set_other ps at i q (λ same. ap
 
 -- Where a turn comes, it is its caller's last one, and what was so for the others' last ones stays so.
 stood_more : (t : Table) (limit steps first at : ℕ) (start : List Entry) (us : List Taken) (w : Taken) (names longer : List Name) (new : List Entry) (ps : List Player) (q : Player)
-    → w.caller ≡ first + at → at < length ps → IsPrefix names longer → new ≡ start ++ entries_of (us ++ w ∷ []) → IsUnderWay t limit longer new → IsPlayer t steps (first + at) longer new (us ++ w ∷ []) q
-    → StoodAtLast t limit steps first start us names ps → StoodAtLast t limit steps first start (us ++ w ∷ []) longer (slice_set ps at q)
+    → w.caller ≡ first + at → at < length ps → IsPrefix names longer → new ≡ start ++ entries_of (us ++ w ∷ []) → IsUnderWay t limit longer new
+    → IsPlayer t steps (first + at) longer new (us ++ w ∷ []) q → StoodAtLast t limit steps first start us names ps → StoodAtLast t limit steps first start (us ++ w ∷ []) longer (slice_set ps at q)
 stood_more t limit steps first at start us w names longer new ps q mine below more log under_way moved stood before after x is none = elim (last_or us before after w x is) [
   | inl h ↦ subst (λ (y : Taken). StoodThen t limit steps first y.caller start (before ++ y ∷ []) longer (slice_set ps at q)) h.1
       (subst (λ (b : List Taken). StoodThen t limit steps first w.caller start (b ++ w ∷ []) longer (slice_set ps at q)) h.0 last)
@@ -209,8 +209,8 @@ took_turn t limit first at names longer old new ps p q is below goes_on took und
         at = here;
         numbered = subst (λ (n : ℕ). IsNumbered q.over q.machine.state.begun n) (sym (turn_mine (first + at) us u refl)) (numbered (turns_by (first + at) us) x.numbered);
       } in
-      let log : new ≡ start ++ entries_of (us ++ u ∷ []) = sym took.came.is ∙ ap (λ (l : List Entry). l ++ entries_by (first + at) took.more) had.is ∙ append_assoc start (entries_of us) (entries_by (first + at) took.more)
-      ∙ ap (λ (l : List Entry). start ++ l) (sym (entries_more us u)) in
+      let log : new ≡ start ++ entries_of (us ++ u ∷ []) = sym took.came.is ∙ ap (λ (l : List Entry). l ++ entries_by (first + at) took.more) had.is
+      ∙ append_assoc start (entries_of us) (entries_by (first + at) took.more) ∙ ap (λ (l : List Entry). start ++ l) (sym (entries_more us u)) in
       record {
         is = log;
         numbers = numbers_more us u had.numbers (turn_number q.over q.machine.state.begun (turns_by (first + at) us) (numbered (turns_by (first + at) us) x.numbered));
