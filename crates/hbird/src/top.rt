@@ -1,6 +1,6 @@
 //! The top call: all that the program does, over any source and sink.
 
-ghost use Rattle.std.specs.Prelude.{◌≡◌, ◌≤◌, ℕ, List, Err, IfOk, IsNone, OnErr, length, map};
+ghost use Rattle.std.specs.Prelude.{◌≡◌, ◌≤◌, ℕ, List, Err, IfOk, IsNone, OnErr, Some, length, map};
 ghost use Rattle.std.specs.Io.KnownBytes.{Keeps};
 ghost use Rattle.std.specs.Option.{option_map};
 ghost use Rattle.hb_eval.specs.Told.{told_by};
@@ -10,6 +10,7 @@ ghost use Rattle.hb_jobs.specs.Given.{texts};
 ghost use Rattle.hb_jobs.specs.Jobs.{Options, job_of, options_told, told};
 ghost use Rattle.hb_tree.specs.Program.{IsProgram};
 ghost use Rattle.hb_tree.specs.Roots.{IsReachedOnce};
+ghost use Rattle.hb_tree.specs.Table.{Table};
 ghost use Rattle.hbird.specs.Answers.{Answers, Ends, IsDueFor, IsOne, IsReadAs, IsRunOf, IsRunOutcome, Reads};
 ghost use Rattle.hbird.specs.Reports.{order_or_none};
 ghost use Rattle.hbird.specs.Faults.{fault_line};
@@ -22,6 +23,7 @@ use hb_eval::script_run::ScriptRun;
 use hb_io::{ReadFail, Sink, Source, read_all, write_all_of};
 use hb_jobs::{Job, RunOptions, job_asked};
 use hb_lex::lex;
+use hb_ordered::laws::an_order_has_one_history;
 use hb_parse::parse;
 use hb_report::{all_done, journals, report, trace};
 use hb_run::laws::histories_keep_the_promise;
@@ -171,6 +173,13 @@ pub fn one_due()
     hb_parse::one_answer();
 }
 
+/// With an order a program has one report, and one trace.
+pub fn one_report()
+    ensures { (t : Table) (options : Options) (order : List ℕ) (len : ℕ) (a b : Outcome) → options.order ≡ Some order → IsReported t options len a → IsReported t options len b → a ≡ b }
+{
+    an_order_has_one_history();
+}
+
 /// All that the program does: takes the words after its name, a source and a sink, and answers the
 /// exit status.
 ///
@@ -183,6 +192,7 @@ pub fn hbird<'a, S: Source, K: Sink>(
     out: &mut K,
 ) -> u8
     ensures one_due { (options : Options) (text : List ℕ) (a b : Outcome) → IsRunOf options text a → IsRunOf options text b → IsOne a b }
+    ensures one_report { (t : Table) (options : Options) (order : List ℕ) (len : ℕ) (a b : Outcome) → options.order ≡ Some order → IsReported t options len a → IsReported t options len b → a ≡ b }
     ensures answers { let old : Ends = record {
       left = S.left source.old;
       read_faults = S.faults source.old;
@@ -198,6 +208,7 @@ pub fn hbird<'a, S: Source, K: Sink>(
         Answers (job_of (texts words.entry.now)) old new result }
 {
     one_due();
+    one_report();
     let job = match job_asked(alloc, words) {
         Ok(job) => job,
         Err(_) => return MEMORY,
