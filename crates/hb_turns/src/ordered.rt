@@ -39,6 +39,7 @@ pub fn turn_at(
 }
 
 /// The players take their turns by the order, as far as it goes. A script that there is not, or whose run is over, is passed over.
+#[inline(never)]
 pub fn play_by_order(
     alloc: Global,
     prog: &Program,
