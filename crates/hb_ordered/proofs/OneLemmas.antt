@@ -193,9 +193,8 @@ record Scripted (t : Table) (steps : ℕ) (order : List ℕ) (names : List Name)
   pub asked : names ≡ asked_after names [] (doings log)
   pub all : AreAllByThen t steps names (entries_by 0 (acts 0 log)) log turns
 
-scripted : (t : Table) (limit steps : ℕ) (order : List ℕ) (names : List Name) (log : List Entry) (runs : List Told) (a : IsOrdered t limit steps order names log runs) → AreAllByThen t steps names a.start log a.turns
-    → Scripted t steps order names log
-scripted t limit steps order names log runs a all = record {
+scripted : (t : Table) (limit steps : ℕ) (order : List ℕ) (names : List Name) (log : List Entry) (runs : List Told) → IsOrdered t limit steps order names log runs → Scripted t steps order names log
+scripted t limit steps order names log runs a = record {
   turns = only (callers_from 1 t.scripts) a.turns;
   is = first_of t log a.start a.turns a.history.in_turn a.history.callers a.is a.setup;
   numbers = numbers_only (callers_from 1 t.scripts) a.turns a.numbers;
@@ -203,7 +202,7 @@ scripted t limit steps order names log runs a all = record {
   tagged = elim a.tagged [ inl none ↦ inl (ap (only (callers_from 1 t.scripts)) none) | inr x ↦ inr (tagged_only t names steps log a.turns (callers_from 1 t.scripts) (callers_from 1 t.scripts) (λ d e. e) x) ];
   mine = only_among (callers_from 1 t.scripts) a.turns;
   asked = a.asked;
-  all = then_only t steps names log a.start a.turns a.history.in_turn a.history.callers a.is a.setup all;
+  all = then_only t steps names log a.start a.turns a.history.in_turn a.history.callers a.is a.setup a.all_by_then;
 }
 
 -- where there is no setup nothing comes before the turns
@@ -391,10 +390,10 @@ one_list t limit steps order names others log log' runs runs' h k a b = go a.tag
         (sym r.0, all_back others names (doings log) (subst (λ l. AreShared others names (doings l)) r.0 r.1))
     go (inr x) (inr y) = walked t limit steps order names others log log' runs runs' h k a b x y
 
-pub one_history : (t : Table) (limit steps : ℕ) (order : List ℕ) (names others : List Name) (log log' : List Entry) (runs runs' : List Told) (a : IsOrdered t limit steps order names log runs)
-    (b : IsOrdered t limit steps order others log' runs') → AreAllByThen t steps names a.start log a.turns → AreAllByThen t steps others b.start log' b.turns → (names ≡ others) × (log ≡ log') × (runs ≡ runs')
-one_history t limit steps order names others log log' runs runs' a b all all' =
-    let r = one_list t limit steps order names others log log' runs runs' a.history b.history (scripted t limit steps order names log runs a all) (scripted t limit steps order others log' runs' b all') in
+pub one_history : (t : Table) (limit steps : ℕ) (order : List ℕ) (names others : List Name) (log log' : List Entry) (runs runs' : List Told)
+    → IsOrdered t limit steps order names log runs → IsOrdered t limit steps order others log' runs' → (names ≡ others) × (log ≡ log') × (runs ≡ runs')
+one_history t limit steps order names others log log' runs runs' a b =
+    let r = one_list t limit steps order names others log log' runs runs' a.history b.history (scripted t limit steps order names log runs a) (scripted t limit steps order others log' runs' b) in
     let lists : names ≡ others = a.asked ∙ asked_same names others [] (doings log) r.1 ∙ ap (λ l. asked_after others [] (doings l)) r.0 ∙ sym b.asked in
     let mine : AreAllRuns t others steps log' t.setup runs = subst (λ ns. AreAllRuns t ns steps log' t.setup runs) lists (subst (λ l. AreAllRuns t names steps l t.setup runs) r.0 a.history.all_runs) in
     (lists, r.0, all_one t others steps log' t.setup runs runs' mine b.history.all_runs)

@@ -16,8 +16,8 @@ use Rattle.hb_call.specs.Growth.{asked_after, asked_by, with_found, with_key}
 use Rattle.hb_call.specs.GrowthLaws.{asked_append}
 use Rattle.hb_run.specs.History.{HasCaller, IsInTurn, callers_from}
 use Rattle.hb_turns.specs.Playing.{Taken, entries_by, entries_of, turns_by}
-use Rattle.hb_turns.proofs.PlayingLemmas.{acts_by_itself}
 use Rattle.hb_turns.specs.Players.{AreAllByThen}
+use Rattle.hb_turns.proofs.PlayingLemmas.{acts_by_itself}
 use Rattle.hb_ordered.specs.Turns.{AreAmong, among}
 use Rattle.hb_ordered.proofs.FirstLemmas.{first_of}
 use Rattle.hb_ordered.proofs.NamesLemmas.{doings, doings_join}
