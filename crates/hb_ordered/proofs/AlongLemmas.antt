@@ -1,6 +1,7 @@
 -- Two runs go along the same way until they read different answers to one question.
-use Rattle.std.proofs.Common.{◌≡◌, ◌⊎◌, inl, inr, ℕ, zero, suc, ◌+◌, ◌-◌, ◌<◌, ◌≤◌, Bool, true, false, List, [], ◌∷◌, ◌++◌, length, map, Option, Some, None, refl, sym, ap, ◌∙◌, subst, arith, append_assoc, nat_eq, nat_le}
-use Rattle.std.specs.Prelude.{Result, Ok, Err, if◌then◌else◌, ◌&&◌, slice_get}
+use Rattle.std.proofs.Common.{◌≡◌, ◌⊎◌, inl, inr, ℕ, zero, suc, ◌+◌, ◌-◌, ◌<◌, ◌≤◌, Bool, true, false, List, [], ◌∷◌, ◌++◌, length, map, Option}
+use Rattle.std.proofs.Common.{Some, None, refl, sym, ap, ◌∙◌, subst, arith, append_assoc, nat_eq, nat_le}
+use Rattle.std.specs.Prelude.{Result, Ok, Err, if◌then◌else◌, ◌&&◌}
 use Rattle.std.specs.List.{AllByRecursion}
 use Rattle.std.proofs.lemmas.Bool.{eqb-true}
 use Rattle.std.proofs.lemmas.List.{append-nil, map-append}
@@ -15,7 +16,6 @@ use Rattle.hb_tree.specs.Nodes.{params_of}
 use Rattle.hb_tree.specs.Canon.{bytes_at}
 use Rattle.hb_tree.specs.Tree.{Tree, TNil, TTrue, TFalse, TSelf, TInt, TText, TVar, TNew, TAssign, TPrint, TToStr, TNot, TBinary, TIf, TWhile, TCall, TDef, TDefComputed}
 use Rattle.hb_tree.specs.Tree.{TDeclare, TDeclareComputed, TBlock, Forest, NoTree, Trees}
-use Rattle.hb_deriv.proofs.JudgementLemmas.{and_both}
 use Rattle.hb_names.specs.declared.names.TheConstants.{NAMES_MAX}
 use Rattle.hb_names.specs.Names.{Differ, IsFull, Name, place}
 use Rattle.hb_tables.specs.declared.entry.Act.{Act}
@@ -24,7 +24,7 @@ use Rattle.hb_tables.specs.declared.entry.Verdict.{Verdict}
 use Rattle.hb_tables.specs.declared.entry.Verdict.TheVariants as verdict
 use Rattle.hb_tables.specs.Standing.{Stand}
 use Rattle.hb_tables.specs.Rows.{body_at}
-use Rattle.hb_call.specs.Reading.{Read, Called, FullAt, Lost as NoCall, call_of, decision, freed, takes_at}
+use Rattle.hb_call.specs.Reading.{Read, Called, FullAt, Lost as NoCall, call_of, decision, takes_at}
 use Rattle.hb_eval.specs.declared.printed.TheConstants.{OUTPUT_MAX}
 use Rattle.hb_eval.specs.declared.value.Value.{Value}
 use Rattle.hb_eval.specs.declared.value.Value.TheVariants as value
@@ -34,7 +34,7 @@ use Rattle.hb_eval.specs.Values.{kind_of, is_false, object}
 use Rattle.hb_eval.specs.Operators.{operate}
 use Rattle.hb_eval.specs.Printing.{shown, print_line}
 use Rattle.hb_eval.specs.State.{Bindings, St, Answer, Lost, Done, Halt, then_do, gives, begin, bind, value_at, read_act, meant, next_act, reads, tagged}
-use Rattle.hb_eval.specs.Methods.{is_name, named, keyed, with_key, changed, unchanged, define_meaning, declare_meaning, define, declare}
+use Rattle.hb_eval.specs.Methods.{is_name, named, keyed, with_key, define_meaning, declare_meaning, define, declare}
 use Rattle.hb_eval.specs.Meaning.{Calls, variable, self_value, printed, turns, loop, ev, ev_items, ev_arguments}
 use Rattle.hb_eval.specs.Calls.{acts_before, bindings, call_in, called, decided, leave, numbered, read_frees, read_to, receiver, received, run_body}
 use Rattle.hb_eval.specs.declared.stop.Outcome.{Outcome}
@@ -42,7 +42,7 @@ use Rattle.hb_eval.specs.declared.stop.Outcome.TheVariants as outcome
 use Rattle.hb_eval.specs.Runs.{Run, ended, run_of, script_run, start}
 use Rattle.hb_eval.proofs.EndLemmas.{before_rest}
 use Rattle.hb_eval.proofs.TurnLemmas.{tagged_append}
-use Rattle.hb_ordered.specs.Asking.{Question, Defines, Declares, Starts, Ends, Answers, Defined, Undefined, Retyped, Held, Worn, AsksOne, DefineOne, DeclareOne, StartOne, GoOne, EndOne}
+use Rattle.hb_ordered.specs.Asking.{Question, Defines, Declares, Starts, Ends, Answers, AsksOne, DefineOne, DeclareOne, StartOne, GoOne, EndOne}
 use Rattle.hb_ordered.specs.Parting.{AreFrees, FirstLacks, GoesPast, GoOn, IsBelow, IsReadFor, Neither, Parted, Parting, SecondLacks, StopsFull, read_with}
 use Rattle.hb_ordered.specs.Sharing.{AreShared, HasKey, IsOwnFree, IsShared}
 use Rattle.hb_ordered.proofs.AnswerLemmas.{declares_key, defines_key, moves}
@@ -50,7 +50,10 @@ use Rattle.hb_ordered.proofs.MeaningLemmas.{declare_answers, declare_quiet, defi
 use Rattle.hb_ordered.proofs.StopLemmas.{EndsFull, ends_leave, ends_then}
 use Rattle.hb_ordered.proofs.LaterLemmas.{Later, Keeps, KeepCalls, later_then, later_if, later_gives, later_printed, later_define, later_declare, later_named, later_decided}
 use Rattle.hb_ordered.proofs.LaterLemmas.{later_body, later_ev, later_items, later_args, later_calls, later_leave, later_turns}
-use Rattle.hb_ordered.proofs.PartLemmas.{Behind, First, FreesTo, FullRead, Head, Leaves, freed_frees, start_head, TwoFrees, NoFirst, NoSecond, Alike, PartAt, two_frees, TwoReads, NoCallFirst, NoCallSecond, BothCalled, BothFull, PartIn, Asks, two_calls}
+use Rattle.hb_ordered.proofs.NamesLemmas.{shared_at}
+use Rattle.hb_ordered.proofs.PartLemmas.{all_both, below_more}
+use Rattle.hb_ordered.proofs.PartLemmas.{Behind, First, FullRead, Head, Leaves, start_head, TwoFrees, NoFirst, NoSecond, Alike, PartAt, two_frees}
+use Rattle.hb_ordered.proofs.PartLemmas.{TwoReads, NoCallFirst, NoCallSecond, BothCalled, BothFull, PartIn, Asks, two_calls}
 
 -- ── what was read ──
 
@@ -62,23 +65,11 @@ untagged n (x ∷ xs) = ap (λ l. x ∷ l) (untagged n xs)
 read_on : (s : St) (pre l m x rest : List Act) (a : Act) → l ≡ a ∷ m → m ≡ x ++ rest → IsPrefix (s.read ++ tagged s.begun (pre ++ a ∷ [])) (s.read ++ tagged s.begun (acts_before rest (pre ++ l)))
 read_on s pre l m x rest a e f =
     let all : pre ++ l ≡ ((pre ++ a ∷ []) ++ x) ++ rest = ap (λ w. pre ++ w) (e ∙ ap (λ w. a ∷ w) f) ∙ sym (append_assoc pre (a ∷ []) (x ++ rest)) ∙ sym (append_assoc (pre ++ a ∷ []) x rest) in
-    let used : acts_before rest (pre ++ l) ≡ (pre ++ a ∷ []) ++ x = ap (acts_before rest) all ∙ before_rest ((pre ++ a ∷ []) ++ x) rest in
-    (tagged s.begun x, append_assoc s.read (tagged s.begun (pre ++ a ∷ [])) (tagged s.begun x) ∙ ap (λ w. s.read ++ w) (sym (tagged_append s.begun (pre ++ a ∷ []) x) ∙ ap (tagged s.begun) (sym used)))
-
-all_both : (P : Act → Type 0) (l m : List Act) → AllByRecursion P l → AllByRecursion P m → AllByRecursion P (l ++ m)
-all_both P [] m h k = k
-all_both P (a ∷ l) m h k = (h.0, all_both P l m h.1 k)
-
-below_more : (n m : ℕ) (l : List Act) → n ≤ m → AllByRecursion (IsBelow n) l → AllByRecursion (IsBelow m) l
-below_more n m [] le h = tt
-below_more n m (Hold p j ty k ∷ l) le h = (let a = h.0 in omega (arith, le, a), below_more n m l le h.1)
-below_more n m (Free p j ∷ l) le h = (let a = h.0 in omega (arith, le, a), below_more n m l le h.1)
-below_more n m (Call p j site args v ∷ l) le h = (let a = h.0 in omega (arith, le, a), below_more n m l le h.1)
-below_more n m (Retype j site ∷ l) le h = (tt, below_more n m l le h.1)
-below_more n m (Busy j pins ∷ l) le h = (tt, below_more n m l le h.1)
-below_more n m (WornType j ∷ l) le h = (tt, below_more n m l le h.1)
-below_more n m (Define j site ∷ l) le h = (tt, below_more n m l le h.1)
-below_more n m (WornDef j ∷ l) le h = (tt, below_more n m l le h.1)
+    let used : acts_before rest (pre ++ l) ≡ (pre ++ a ∷ []) ++ x = ap (acts_before rest) all ∙ before_rest ((pre ++ a ∷ []) ++ x) rest in (
+      tagged s.begun x,
+      append_assoc s.read (tagged s.begun (pre ++ a ∷ [])) (tagged s.begun x) ∙ ap (λ w. s.read ++ w)
+          (sym (tagged_append s.begun (pre ++ a ∷ []) x) ∙ ap (tagged s.begun) (sym used)),
+    )
 
 -- the state with these acts left
 abbrev at : St → List Act → St
@@ -95,16 +86,6 @@ pub record Wants (names others : List Name) (second : List Act) : Type 0 where
   pub act : Act
   pub behind : List Act
   pub is : second ≡ act ∷ behind
-
-shared_at : (names others : List Name) (k : ℕ) (a : Act) → IsShared names others a → HasKey k a → slice_get names k ≡ slice_get others k
-shared_at names others k (Hold p key ty n) h e = subst (λ j. slice_get names j ≡ slice_get others j) e h
-shared_at names others k (Free p key) h e = absurd e
-shared_at names others k (Retype key site) h e = subst (λ j. slice_get names j ≡ slice_get others j) e h
-shared_at names others k (Busy key pins) h e = subst (λ j. slice_get names j ≡ slice_get others j) e h
-shared_at names others k (WornType key) h e = subst (λ j. slice_get names j ≡ slice_get others j) e h
-shared_at names others k (Define key site) h e = subst (λ j. slice_get names j ≡ slice_get others j) e h
-shared_at names others k (WornDef key) h e = subst (λ j. slice_get names j ≡ slice_get others j) e h
-shared_at names others k (Call p key site args v) h e = absurd e
 
 -- What follows a key reads an act by it, or gives no answer.
 record Keyed (f : St → Answer) (k : ℕ) : Type 0 where
@@ -137,14 +118,19 @@ module _ (t : Table) (names others : List Name) (done first second : List Act) w
   abbrev pub AllKeep : (St → Answer) → Type 0
   AllKeep f = (rd : List (ℕ × Act)) → Keeps rd f
 
-  along_then : (n : ℕ) (a b : Answer) (f g : Value → St → Answer) → Along n a b → ((v : Value) → Walks (f v) (g v)) → ((v : Value) → AllKeep (f v)) → ((v : Value) → AllKeep (g v)) → Along n (then_do a f) (then_do b g)
+  along_then : (n : ℕ) (a b : Answer) (f g : Value → St → Answer) → Along n a b → ((v : Value) → Walks (f v) (g v)) → ((v : Value) → AllKeep (f v)) → ((v : Value) → AllKeep (g v)) → Along n
+      (then_do a f) (then_do b g)
   unfolding then_do
   along_then n _ _ f g (FailsFirst b) w k l = FailsFirst (then_do b g)
   along_then n _ _ f g (FailsSecond a) w k l = FailsSecond (then_do a f)
-  along_then n _ _ f g (Apart x a b u m oa ob) w k l = Apart x (then_do a f) (then_do b g) (later_then (read_with x x.a) a f u (λ v. k v (read_with x x.a))) (later_then (read_with x x.b) b g m (λ v. l v (read_with x x.b)))
-      (λ own. ends_then x.state.begun (x.state.read ++ tagged x.state.begun x.since) first a f (oa own)) (λ own. ends_then x.state.begun (x.state.read ++ tagged x.state.begun x.since) second b g (ob own))
-  along_then n _ _ f g (LacksFirst x a b r m e) w k l = LacksFirst x (then_do a f) (then_do b g) r (later_then (x.read ++ (x.begun, x.act) ∷ []) b g m (λ v. l v (x.read ++ (x.begun, x.act) ∷ []))) (ends_then x.begun x.read first a f e)
-  along_then n _ _ f g (LacksSecond x a b r m e) w k l = LacksSecond x (then_do a f) (then_do b g) r (later_then (x.read ++ (x.begun, x.act) ∷ []) a f m (λ v. k v (x.read ++ (x.begun, x.act) ∷ []))) (ends_then x.begun x.read second b g e)
+  along_then n _ _ f g (Apart x a b u m oa ob) w k l = Apart x (then_do a f) (then_do b g) (later_then (read_with x x.a) a f u (λ v. k v (read_with x x.a)))
+      (later_then (read_with x x.b) b g m (λ v. l v (read_with x x.b)))
+      (λ own. ends_then x.state.begun (x.state.read ++ tagged x.state.begun x.since) first a f (oa own))
+      (λ own. ends_then x.state.begun (x.state.read ++ tagged x.state.begun x.since) second b g (ob own))
+  along_then n _ _ f g (LacksFirst x a b r m e) w k l = LacksFirst x (then_do a f) (then_do b g) r
+      (later_then (x.read ++ (x.begun, x.act) ∷ []) b g m (λ v. l v (x.read ++ (x.begun, x.act) ∷ []))) (ends_then x.begun x.read first a f e)
+  along_then n _ _ f g (LacksSecond x a b r m e) w k l = LacksSecond x (then_do a f) (then_do b g) r
+      (later_then (x.read ++ (x.begun, x.act) ∷ []) a f m (λ v. k v (x.read ++ (x.begun, x.act) ∷ []))) (ends_then x.begun x.read second b g e)
   along_then n _ _ f g (Both v s pre h) w k l = w v n s pre h
   along_then n _ _ f g (Halts e id s pre h) w k l = Halts e id s pre h
 
@@ -172,7 +158,8 @@ module _ (t : Table) (names others : List Name) (done first second : List Act) w
   walk_printed id text n s pre h = along_if n (nat_le (length (s.output ++ print_line text)) OUTPUT_MAX) _ _ _ _ (Both value.Nil (record s { output = s.output ++ print_line text }) pre h)
       (Halts stop.OutputFull id s pre h)
 
-  walk_turns : (m : ℕ) (test test' body body' : St → Answer) → Walks test test' → Walks body body' → AllKeep test → AllKeep test' → AllKeep body → AllKeep body' → Walks (turns m test body) (turns m test' body')
+  walk_turns : (m : ℕ) (test test' body body' : St → Answer) → Walks test test' → Walks body body' → AllKeep test → AllKeep test' → AllKeep body → AllKeep body' → Walks (turns m test body)
+      (turns m test' body')
   unfolding turns Keeps Later
   walk_turns zero test test' body body' w x k k' l l' n s pre h = FailsFirst Lost
   walk_turns (suc m) test test' body body' w x k k' l l' n s pre h = along_then n (test (at s (pre ++ first))) (test' (at s (pre ++ second))) _ _ (w n s pre h)
@@ -189,27 +176,32 @@ module _ (t : Table) (names others : List Name) (done first second : List Act) w
   -- ── keys ──
 
   -- a common act is read
-  walk_read : (m : Act → Option (Result Value Stop)) → ((n : ℕ) (a : Act) (r : Result Value Stop) → m a ≡ Some r → IsBelow n a) → (id n : ℕ) (s : St) (c : Act) (pre : List Act) → Together n s (c ∷ pre)
+  walk_read : (m : Act → Option (Result Value Stop)) → ((n : ℕ) (a : Act) (r : Result Value Stop) → m a ≡ Some r → IsBelow n a) → (id n : ℕ) (s : St) (c : Act) (pre : List Act) → Together n s
+      (c ∷ pre)
       → Along n (reads m id (at s ((c ∷ pre) ++ first))) (reads m id (at s ((c ∷ pre) ++ second)))
   unfolding reads
   walk_read m quiet id n s c pre h = go (m c) refl
     where
-      go : (o : Option (Result Value Stop)) → m c ≡ o → Along n (meant id o (read_act c (pre ++ first) (at s ((c ∷ pre) ++ first)))) (meant id o (read_act c (pre ++ second) (at s ((c ∷ pre) ++ second))))
+      go : (o : Option (Result Value Stop)) → m c ≡ o → Along n (meant id o (read_act c (pre ++ first) (at s ((c ∷ pre) ++ first))))
+          (meant id o (read_act c (pre ++ second) (at s ((c ∷ pre) ++ second))))
       go None e = FailsFirst Lost
       go (Some r) e = walk_gives id r n (record s { read = s.read ++ (s.begun, c) ∷ [] }) pre (
         ap (λ l. l ++ pre) (map-append (λ (e : ℕ × Act). e.1) s.read ((s.begun, c) ∷ [])) ∙ append_assoc (map (λ e. e.1) s.read) (c ∷ []) pre ∙ h.0,
         h.1,
-        subst (AllByRecursion (IsBelow s.next)) (sym (map-append (λ (e : ℕ × Act). e.1) s.read ((s.begun, c) ∷ []))) (all_both (IsBelow s.next) (map (λ e. e.1) s.read) (c ∷ []) h.2 (quiet s.next c r e, tt)),
+        subst (AllByRecursion (IsBelow s.next)) (sym (map-append (λ (e : ℕ × Act). e.1) s.read ((s.begun, c) ∷ [])))
+            (all_both (IsBelow s.next) (map (λ e. e.1) s.read) (c ∷ []) h.2 (quiet s.next c r e, tt)),
       )
 
   -- behind the common acts each reads its own, which answers its question
-  part_read : (m k : Act → Option (Result Value Stop)) (u v : Question) → AsksOne names others u v → ((a : Act) (r : Result Value Stop) → m a ≡ Some r → Answers u a) → ((a : Act) (r : Result Value Stop) → k a ≡ Some r → Answers v a)
+  part_read : (m k : Act → Option (Result Value Stop)) (u v : Question) → AsksOne names others u v → ((a : Act) (r : Result Value Stop) → m a ≡ Some r → Answers u a) →
+      ((a : Act) (r : Result Value Stop) → k a ≡ Some r → Answers v a)
       → ((n : ℕ) → IsReadFor n u []) → ((a : Act) → GoesPast t u [] a) → ((a : Act) → GoesPast t v [] a) → ((a : Act) → IsOwnFree u a → ⊥) → ((a : Act) → IsOwnFree v a → ⊥)
       → (id n : ℕ) (s : St) → Together n s [] → Along n (reads m id (at s first)) (reads k id (at s second))
   unfolding reads Keeps Later
   part_read m k u v asked answers answers' none past past' own own' id n s h = go first second refl refl
     where
-      one : (a b : Act) (x y : List Act) → first ≡ a ∷ x → second ≡ b ∷ y → (o p : Option (Result Value Stop)) → m a ≡ o → k b ≡ p → Along n (meant id o (read_act a x s)) (meant id p (read_act b y s))
+      one : (a b : Act) (x y : List Act) → first ≡ a ∷ x → second ≡ b ∷ y → (o p : Option (Result Value Stop)) → m a ≡ o → k b ≡ p → Along n (meant id o (read_act a x s))
+          (meant id p (read_act b y s))
       one a b x y e f None p g i = FailsFirst (meant id p (read_act b y s))
       one a b x y e f (Some r) None g i = FailsSecond (meant id (Some r) (read_act a x s))
       one a b x y e f (Some r) (Some d) g i =
@@ -264,7 +256,8 @@ module _ (t : Table) (names others : List Name) (done first second : List Act) w
     here_shared (a ∷ l) c m h = here_shared l c m h.1
 
     walk_key : (id : ℕ) (name : Name) (f g : ℕ → St → Answer) → ((k : ℕ) → Keyed (f k) k) → ((k : ℕ) → Keyed (g k) k)
-        → ((k : ℕ) → place names name ≡ Some k → place others name ≡ Some k → (n : ℕ) (s : St) (c : Act) (pre : List Act) → Together n s (c ∷ pre) → Along n (f k (at s ((c ∷ pre) ++ first))) (g k (at s ((c ∷ pre) ++ second))))
+        → ((k : ℕ) → place names name ≡ Some k → place others name ≡ Some k → (n : ℕ) (s : St) (c : Act) (pre : List Act) → Together n s (c ∷ pre) → Along n (f k (at s ((c ∷ pre) ++ first)))
+        (g k (at s ((c ∷ pre) ++ second))))
         → ((k j : ℕ) → place names name ≡ Some k → place others name ≡ Some j → (n : ℕ) (s : St) → Together n s [] → Along n (f k (at s first)) (g j (at s second)))
         → Walks (λ s. with_key names id (place names name) s (λ k. f k s)) (λ s. with_key others id (place others name) s (λ k. g k s))
     unfolding EndsFull
@@ -333,10 +326,12 @@ module _ (t : Table) (names others : List Name) (done first second : List Act) w
         let keyed = λ (k : ℕ). keyed_read (declare_meaning asks k site) k id (λ a r m. declares_key k site a (declare_answers asks k site a r m)) in
         walk_key id name (λ k. reads (declare_meaning asks k site) id) (λ k. reads (declare_meaning asks k site) id) keyed keyed
         (λ k e f. walk_read (declare_meaning asks k site) (λ n a r m. declare_quiet k site n a (declare_answers asks k site a r m)) id)
-        (λ k j e f. part_read (declare_meaning asks k site) (declare_meaning asks j site) (Declares k site) (Declares j site) (DeclareOne name k j site e f) (declare_answers asks k site) (declare_answers asks j site)
+        (λ k j e f. part_read (declare_meaning asks k site) (declare_meaning asks j site) (Declares k site) (Declares j site) (DeclareOne name k j site e f) (declare_answers asks k site)
+        (declare_answers asks j site)
         (λ n. refl) (λ a. tt) (λ a. tt) (λ a own. own) (λ a own. own) id) n s pre h
 
-    walk_named : (id : ℕ) (v : Value) (f g : List ℕ → St → Answer) → ((bytes : List ℕ) → Walks (f bytes) (g bytes)) → Walks (λ s. named id v s (λ bytes. f bytes s)) (λ s. named id v s (λ bytes. g bytes s))
+    walk_named : (id : ℕ) (v : Value) (f g : List ℕ → St → Answer) → ((bytes : List ℕ) → Walks (f bytes) (g bytes)) → Walks (λ s. named id v s (λ bytes. f bytes s))
+        (λ s. named id v s (λ bytes. g bytes s))
     walk_named id value.Nil f g w n s pre h = Halts stop.NilValue id s pre h
     walk_named id (value.Bool b) f g w n s pre h = Halts stop.BadOperand id s pre h
     walk_named id (value.Int z) f g w n s pre h = Halts stop.BadOperand id s pre h
@@ -366,7 +361,8 @@ module _ (t : Table) (names others : List Name) (done first second : List Act) w
         walk_ev (TText id x) n s pre h = walk_begin id _ _ (λ n s pre h. Both (value.Str (bytes_at t.texts x)) s pre h) n s pre h
         walk_ev (TVar id x) n s pre h = walk_begin id _ _ (λ n s pre h. walk_variable id (value_at s.vars x) n s pre h) n s pre h
         walk_ev (TNew id c) n s pre h = walk_begin id _ _ (λ n s pre h. Both (object c) s pre h) n s pre h
-        walk_ev (TAssign id x e) n s pre h = walk_begin id _ _ (λ n s pre h. along_then n (ev t names call e (at s (pre ++ first))) (ev t others call' e (at s (pre ++ second))) _ _ (walk_ev e n s pre h)
+        walk_ev (TAssign id x e) n s pre h = walk_begin id _ _ (λ n s pre h. along_then n (ev t names call e (at s (pre ++ first))) (ev t others call' e (at s (pre ++ second))) _ _
+            (walk_ev e n s pre h)
             (λ v n s pre h. Both v (record s { vars = bind s.vars x v }) pre h) (λ v rd s p. p) (λ v rd s p. p)) n s pre h
         walk_ev (TPrint id e) n s pre h = walk_begin id _ _ (λ n s pre h. along_then n (ev t names call e (at s (pre ++ first))) (ev t others call' e (at s (pre ++ second))) _ _ (walk_ev e n s pre h)
             (λ v n s pre h. walk_printed id (shown t v) n s pre h) (λ v rd s p. later_printed rd id (shown t v) s p) (λ v rd s p. later_printed rd id (shown t v) s p)) n s pre h
@@ -374,29 +370,37 @@ module _ (t : Table) (names others : List Name) (done first second : List Act) w
             (λ v n s pre h. Both (value.Str (shown t v)) s pre h) (λ v rd s p. p) (λ v rd s p. p)) n s pre h
         walk_ev (TNot id e) n s pre h = walk_begin id _ _ (λ n s pre h. along_then n (ev t names call e (at s (pre ++ first))) (ev t others call' e (at s (pre ++ second))) _ _ (walk_ev e n s pre h)
             (λ v n s pre h. Both (value.Bool (is_false v)) s pre h) (λ v rd s p. p) (λ v rd s p. p)) n s pre h
-        walk_ev (TBinary id o a b) n s pre h = walk_begin id _ _ (λ n s pre h. along_then n (ev t names call a (at s (pre ++ first))) (ev t others call' a (at s (pre ++ second))) _ _ (walk_ev a n s pre h)
+        walk_ev (TBinary id o a b) n s pre h = walk_begin id _ _ (λ n s pre h. along_then n (ev t names call a (at s (pre ++ first))) (ev t others call' a (at s (pre ++ second))) _ _
+            (walk_ev a n s pre h)
             (λ v n s pre h. along_then n (ev t names call b (at s (pre ++ first))) (ev t others call' b (at s (pre ++ second))) _ _ (walk_ev b n s pre h)
             (λ w n s pre h. walk_gives id (operate o v w) n s pre h) (λ w rd s p. later_gives rd id (operate o v w) s p) (λ w rd s p. later_gives rd id (operate o v w) s p))
             (λ v rd s p. later_then rd (ev t names call b s) _ (keeps_ev b rd s p) (λ w s p. later_gives rd id (operate o v w) s p))
             (λ v rd s p. later_then rd (ev t others call' b s) _ (others_ev b rd s p) (λ w s p. later_gives rd id (operate o v w) s p))) n s pre h
-        walk_ev (TIf id c a b) n s pre h = walk_begin id _ _ (λ n s pre h. along_then n (ev t names call c (at s (pre ++ first))) (ev t others call' c (at s (pre ++ second))) _ _ (walk_ev c n s pre h)
+        walk_ev (TIf id c a b) n s pre h = walk_begin id _ _ (λ n s pre h. along_then n (ev t names call c (at s (pre ++ first))) (ev t others call' c (at s (pre ++ second))) _ _
+            (walk_ev c n s pre h)
             (λ v n s pre h. along_if n (is_false v) _ _ _ _ (walk_ev b n s pre h) (walk_ev a n s pre h))
             (λ v rd s p. later_if rd (is_false v) _ _ (keeps_ev b rd s p) (keeps_ev a rd s p)) (λ v rd s p. later_if rd (is_false v) _ _ (others_ev b rd s p) (others_ev a rd s p))) n s pre h
         walk_ev (TWhile id c b) n s pre h = walk_begin id _ _ (λ n s pre h. walk_loop (ev t names call c) (ev t others call' c) (ev t names call b) (ev t others call' b)
             (λ n s pre h. walk_ev c n s pre h) (λ n s pre h. walk_ev b n s pre h)
             (keeps_ev c) (others_ev c) (keeps_ev b) (others_ev b) n s pre h) n s pre h
-        walk_ev (TCall id r m args) n s pre h = walk_begin id _ _ (λ n s pre h. along_then n (ev t names call r (at s (pre ++ first))) (ev t others call' r (at s (pre ++ second))) _ _ (walk_ev r n s pre h)
-            (λ v n s pre h. walk_args args [] (λ vs s. call id v m vs s) (λ vs s. call' id v m vs s) (λ vs n s pre h. ok id v m vs n s pre h) (λ vs rd s p. keep rd id v m vs s p) (λ vs rd s p. keep' rd id v m vs s p) n s pre h)
+        walk_ev (TCall id r m args) n s pre h = walk_begin id _ _ (λ n s pre h. along_then n (ev t names call r (at s (pre ++ first))) (ev t others call' r (at s (pre ++ second))) _ _
+            (walk_ev r n s pre h)
+            (λ v n s pre h. walk_args args [] (λ vs s. call id v m vs s) (λ vs s. call' id v m vs s) (λ vs n s pre h. ok id v m vs n s pre h) (λ vs rd s p. keep rd id v m vs s p)
+            (λ vs rd s p. keep' rd id v m vs s p) n s pre h)
             (λ v rd s p. later_args rd t names call (keep rd) args [] (λ vs s. call id v m vs s) (λ vs s p. keep rd id v m vs s p) s p)
             (λ v rd s p. later_args rd t others call' (keep' rd) args [] (λ vs s. call' id v m vs s) (λ vs s p. keep' rd id v m vs s p) s p)) n s pre h
         walk_ev (TDef id c m site b) n s pre h = walk_begin id _ _ (λ n s pre h. walk_define id (c, bytes_at t.names m) site n s pre h) n s pre h
-        walk_ev (TDefComputed id c e site b) n s pre h = walk_begin id _ _ (λ n s pre h. along_then n (ev t names call e (at s (pre ++ first))) (ev t others call' e (at s (pre ++ second))) _ _ (walk_ev e n s pre h)
-            (λ v n s pre h. walk_named id v (λ bytes s. define names id (c, bytes) site s) (λ bytes s. define others id (c, bytes) site s) (λ bytes n s pre h. walk_define id (c, bytes) site n s pre h) n s pre h)
+        walk_ev (TDefComputed id c e site b) n s pre h = walk_begin id _ _ (λ n s pre h. along_then n (ev t names call e (at s (pre ++ first))) (ev t others call' e (at s (pre ++ second))) _ _
+            (walk_ev e n s pre h)
+            (λ v n s pre h. walk_named id v (λ bytes s. define names id (c, bytes) site s) (λ bytes s. define others id (c, bytes) site s)
+            (λ bytes n s pre h. walk_define id (c, bytes) site n s pre h) n s pre h)
             (λ v rd s p. later_named rd id v _ (λ bytes s p. later_define rd names id (c, bytes) site s p) s p)
             (λ v rd s p. later_named rd id v _ (λ bytes s p. later_define rd others id (c, bytes) site s p) s p)) n s pre h
         walk_ev (TDeclare id c m site asks) n s pre h = walk_begin id _ _ (λ n s pre h. walk_declare id asks (c, bytes_at t.names m) site n s pre h) n s pre h
-        walk_ev (TDeclareComputed id c e site asks) n s pre h = walk_begin id _ _ (λ n s pre h. along_then n (ev t names call e (at s (pre ++ first))) (ev t others call' e (at s (pre ++ second))) _ _ (walk_ev e n s pre h)
-            (λ v n s pre h. walk_named id v (λ bytes s. declare names id asks (c, bytes) site s) (λ bytes s. declare others id asks (c, bytes) site s) (λ bytes n s pre h. walk_declare id asks (c, bytes) site n s pre h) n s pre h)
+        walk_ev (TDeclareComputed id c e site asks) n s pre h = walk_begin id _ _ (λ n s pre h. along_then n (ev t names call e (at s (pre ++ first)))
+            (ev t others call' e (at s (pre ++ second))) _ _ (walk_ev e n s pre h)
+            (λ v n s pre h. walk_named id v (λ bytes s. declare names id asks (c, bytes) site s) (λ bytes s. declare others id asks (c, bytes) site s)
+            (λ bytes n s pre h. walk_declare id asks (c, bytes) site n s pre h) n s pre h)
             (λ v rd s p. later_named rd id v _ (λ bytes s p. later_declare rd names id asks (c, bytes) site s p) s p)
             (λ v rd s p. later_named rd id v _ (λ bytes s p. later_declare rd others id asks (c, bytes) site s p) s p)) n s pre h
         walk_ev (TBlock id es) n s pre h = walk_items es value.Nil n s pre h
@@ -406,7 +410,8 @@ module _ (t : Table) (names others : List Name) (done first second : List Act) w
         walk_items (Trees e es) v n s pre h = along_then n (ev t names call e (at s (pre ++ first))) (ev t others call' e (at s (pre ++ second))) _ _ (walk_ev e n s pre h)
             (λ w n s pre h. walk_items es w n s pre h) (λ w rd s p. later_items rd t names call (keep rd) es w s p) (λ w rd s p. later_items rd t others call' (keep' rd) es w s p)
 
-        walk_args : (es : Forest) (vs : List Value) (f g : List Value → St → Answer) → ((us : List Value) → Walks (f us) (g us)) → ((us : List Value) → AllKeep (f us)) → ((us : List Value) → AllKeep (g us))
+        walk_args : (es : Forest) (vs : List Value) (f g : List Value → St → Answer) → ((us : List Value) → Walks (f us) (g us)) → ((us : List Value) → AllKeep (f us)) →
+            ((us : List Value) → AllKeep (g us))
             → Walks (ev_arguments t names call es vs f) (ev_arguments t others call' es vs g)
         walk_args NoTree vs f g w k l n s pre h = w vs n s pre h
         walk_args (Trees e es) vs f g w k l n s pre h = along_then n (ev t names call e (at s (pre ++ first))) (ev t others call' e (at s (pre ++ second))) _ _ (walk_ev e n s pre h)
@@ -485,9 +490,11 @@ module _ (t : Table) (names others : List Name) (done first second : List Act) w
       (later_leave (read_with x x.b) q held vars self b k)
       (λ own. ends_leave x.state.begun (x.state.read ++ tagged x.state.begun x.since) first q held vars self a (oa own))
       (λ own. ends_leave x.state.begun (x.state.read ++ tagged x.state.begun x.since) second q held vars self b (ob own))
-  along_leave n m q held vars self _ _ le lt (LacksFirst x a b r l e) = LacksFirst x (leave q held vars self a) (leave q held vars self b) r (later_leave (x.read ++ (x.begun, x.act) ∷ []) q held vars self b l)
+  along_leave n m q held vars self _ _ le lt (LacksFirst x a b r l e) = LacksFirst x (leave q held vars self a) (leave q held vars self b) r
+      (later_leave (x.read ++ (x.begun, x.act) ∷ []) q held vars self b l)
       (ends_leave x.begun x.read first q held vars self a e)
-  along_leave n m q held vars self _ _ le lt (LacksSecond x a b r l e) = LacksSecond x (leave q held vars self a) (leave q held vars self b) r (later_leave (x.read ++ (x.begun, x.act) ∷ []) q held vars self a l)
+  along_leave n m q held vars self _ _ le lt (LacksSecond x a b r l e) = LacksSecond x (leave q held vars self a) (leave q held vars self b) r
+      (later_leave (x.read ++ (x.begun, x.act) ∷ []) q held vars self a l)
       (ends_leave x.begun x.read second q held vars self b e)
   along_leave n m q held vars self _ _ le lt (Both v s pre h) = walk_frees n m q s pre le lt h _ _ (two_frees t first second q held pre) (λ s. Done v (record s { vars = vars; self = self }))
       (λ n s pre h. Both v (record s { vars = vars; self = self }) pre h) (λ rd s p. p)
@@ -495,7 +502,8 @@ module _ (t : Table) (names others : List Name) (done first second : List Act) w
       (λ s. Halt e id (record s { vars = vars; self = self })) (λ n s pre h. Halts e id (record s { vars = vars; self = self }) pre h) (λ rd s p. p)
 
   -- the body of a call, whose number is below the next
-  walk_body : (run run' : ℕ → St → Answer) → ((block : ℕ) → Walks (run block) (run' block)) → (q : ℕ) (c : ClassId) (args : List Value) (held : List Stand) (b : Option Body) (n : ℕ) (s : St) (pre : List Act)
+  walk_body : (run run' : ℕ → St → Answer) → ((block : ℕ) → Walks (run block) (run' block)) → (q : ℕ) (c : ClassId) (args : List Value) (held : List Stand) (b : Option Body) (n : ℕ) (s : St)
+      (pre : List Act)
       → q < s.next → Together n s pre → Along n (run_body run q c args held b (at s (pre ++ first))) (run_body run' q c args held b (at s (pre ++ second)))
   walk_body run run' w q c args held None n s pre lt h = FailsFirst Lost
   walk_body run run' w q c args held (Some b) n s pre lt h = along_leave n s.next q held s.vars s.self _ _ h.1 lt
@@ -545,7 +553,8 @@ module _ (t : Table) (names others : List Name) (done first second : List Act) w
         go s (Hold p j ty n) l = one (nat_eq p.0 s.next) (nat_eq j.0 key) refl
           where
             one : (x y : Bool) → nat_eq j.0 key ≡ y
-                → (j.0 ≡ key) ⊎ (called t run id c args (if x && y then decision (takes_at t ty kinds) s.next key kinds (record { key = j.0; ty = ty; changes = n } ∷ []) l else NoCall) (at s (Hold p j ty n ∷ l)) ≡ Lost)
+                → (j.0 ≡ key) ⊎ (called t run id c args (if x && y then decision (takes_at t ty kinds) s.next key kinds (record { key = j.0; ty = ty; changes = n } ∷ []) l else NoCall)
+                (at s (Hold p j ty n ∷ l)) ≡ Lost)
             one x true e = inl (eqb-true j.0 key e)
             one true false e = inr refl
             one false false e = inr refl
@@ -562,14 +571,16 @@ module _ (t : Table) (names others : List Name) (done first second : List Act) w
         went s a l (inl e) = subst (λ r. Later (s.read ++ (s.begun, a) ∷ []) (called t run id c args r (at s (a ∷ l)))) (sym e) tt
         went s a l (inr (First b m e f u)) =
             let same : b ≡ a = (let h : a ∷ l ≡ b ∷ m = e in sym (cc h)) in
-            subst (λ x. Later (s.read ++ (s.begun, x) ∷ []) (called t run id c args (call_of t s.next key kinds (a ∷ l)) (at s (a ∷ l)))) same (later_one s [] (a ∷ l) m b e (call_of t s.next key kinds (a ∷ l)) u)
+            subst (λ x. Later (s.read ++ (s.begun, x) ∷ []) (called t run id c args (call_of t s.next key kinds (a ∷ l)) (at s (a ∷ l)))) same
+            (later_one s [] (a ∷ l) m b e (call_of t s.next key kinds (a ∷ l)) u)
 
   module _ (run run' : ℕ → St → Answer) (w : (block : ℕ) → Walks (run block) (run' block)) (k : (block : ℕ) → AllKeep (run block)) (k' : (block : ℕ) → AllKeep (run' block))
       (id : ℕ) (c : ClassId) (args : List Value) (kinds : List Ty) where
     -- behind the common acts each call begins by its own key
     part_called : (name : Name) (key key' : ℕ) → place names name ≡ Some key → place others name ≡ Some key' → (n : ℕ) (s : St) → Together n s []
         → Along n (called t run id c args (call_of t s.next key kinds first) (at s first)) (called t run' id c args (call_of t s.next key' kinds second) (at s second))
-    part_called name key key' e e' n s h = go (call_of t s.next key kinds first) (call_of t s.next key' kinds second) (start_head t first second s.next key kinds first) (start_head t first second s.next key' kinds second)
+    part_called name key key' e e' n s h = go (call_of t s.next key kinds first) (call_of t s.next key' kinds second) (start_head t first second s.next key kinds first)
+        (start_head t first second s.next key' kinds second)
       where
         go : (x y : Read) → (x ≡ NoCall) ⊎ Head (Starts s.next key) first (λ a m. Leaves m x) → (y ≡ NoCall) ⊎ Head (Starts s.next key') second (λ a m. Leaves m y)
             → Along n (called t run id c args x (at s first)) (called t run' id c args y (at s second))
@@ -596,7 +607,8 @@ module _ (t : Table) (names others : List Name) (done first second : List Act) w
               past_a = tt;
               past_b = tt;
             } in
-            Apart p (called t run id c args x (at s first)) (called t run' id c args y (at s second)) (later_one run k id c args s [] first m a f x u) (later_one run' k' id c args s [] second l b g y v)
+            Apart p (called t run id c args x (at s first)) (called t run' id c args y (at s second)) (later_one run k id c args s [] first m a f x u)
+            (later_one run' k' id c args s [] second l b g y v)
             (λ own. absurd own) (λ own. absurd own)
 
     -- a call that has begun by common acts
@@ -610,7 +622,8 @@ module _ (t : Table) (names others : List Name) (done first second : List Act) w
         let up = h.1 in
         let below : AllByRecursion (IsBelow (s.next + 1)) used = below_more (suc s.next) (s.next + 1) used (omega arith) b in
         let on : Together n u left = together_more n n (s.next + 1) s used left (d ∷ pre) e (omega arith) (omega (arith, up)) below h in
-        walk_from n n (λ x. decided id (run_body run s.next c args held (body_at t site)) v (numbered x)) (λ x. decided id (run_body run' s.next c args held (body_at t site)) v (numbered x)) s (d ∷ pre) used left e
+        walk_from n n (λ x. decided id (run_body run s.next c args held (body_at t site)) v (numbered x)) (λ x. decided id (run_body run' s.next c args held (body_at t site)) v (numbered x)) s
+        (d ∷ pre) used left e
         (walk_decided id (run_body run s.next c args held (body_at t site)) (run_body run' s.next c args held (body_at t site)) v n u left
         (walk_body run run' w s.next c args held (body_at t site) n u left (omega arith) on) on)
     walk_called key n s d pre h _ _ (BothFull used left b e) =
@@ -654,35 +667,42 @@ module _ (t : Table) (names others : List Name) (done first second : List Act) w
         asked u (inr (inl x)) = subst (λ v. AsksOne names others v v) (sym x.0) (GoOne s.next key kinds)
         asked u (inr (inr x)) = subst (λ v. AsksOne names others v v) (sym x.1) (EndOne s.next x.0)
 
-  walk_received : (id : ℕ) (r : Result ClassId Stop) (f g : ClassId → St → Answer) → ((c : ClassId) → Walks (f c) (g c)) → Walks (λ s. received id r s (λ c. f c s)) (λ s. received id r s (λ c. g c s))
+  walk_received : (id : ℕ) (r : Result ClassId Stop) (f g : ClassId → St → Answer) → ((c : ClassId) → Walks (f c) (g c)) → Walks (λ s. received id r s (λ c. f c s))
+      (λ s. received id r s (λ c. g c s))
   walk_received id (Err e) f g w n s pre h = Halts e id s pre h
   walk_received id (Ok c) f g w n s pre h = w c n s pre h
 
   module _ (differ : Differ names) (differ' : Differ others) (shared : AreShared names others done) where
     -- what a call does with its receiver's class
     abbrev on_class : (ns : List Name) (room id m : ℕ) → List Value → ClassId → St → Answer
-    on_class ns room id m vs c s = keyed ns id (c.0, bytes_at t.names m) s (λ key. called t (λ block s. ev t ns (call_in t ns room) (tree_at t block) s) id c vs (call_of t s.next key (map kind_of vs) s.journal) s)
+    on_class ns room id m vs c s = keyed ns id (c.0, bytes_at t.names m) s (λ key. called t (λ block s. ev t ns (call_in t ns room) (tree_at t block) s) id c vs
+        (call_of t s.next key (map kind_of vs) s.journal) s)
 
     -- a body runs with room for so many calls more
     abbrev body_run : (ns : List Name) (room block : ℕ) → St → Answer
     body_run ns room block s = ev t ns (call_in t ns room) (tree_at t block) s
 
-    walk_class : (room : ℕ) → WalkCalls differ differ' shared (call_in t names room) (call_in t others room) → (id m : ℕ) (vs : List Value) (c : ClassId) → Walks (on_class names room id m vs c) (on_class others room id m vs c)
+    walk_class : (room : ℕ) → WalkCalls differ differ' shared (call_in t names room) (call_in t others room) → (id m : ℕ) (vs : List Value) (c : ClassId) → Walks (on_class names room id m vs c)
+        (on_class others room id m vs c)
     unfolding Keeps
     walk_class room calls id m vs c n s pre h =
-        let walks : (block : ℕ) → Walks ((body_run names room) block) ((body_run others room) block) = λ block n s pre h. walk_ev differ differ' shared (call_in t names room) (call_in t others room) calls (λ rd. later_calls rd t names room) (λ rd. later_calls rd t others room)
+        let walks : (block : ℕ) → Walks (body_run names room block) (body_run others room block) = λ block n s pre h.
+        walk_ev differ differ' shared (call_in t names room) (call_in t others room) calls (λ rd. later_calls rd t names room) (λ rd. later_calls rd t others room)
         (tree_at t block) n s pre h in
-        let keeps : (block : ℕ) → AllKeep ((body_run names room) block) = λ block rd s p. later_ev rd t names (call_in t names room) (later_calls rd t names room) (tree_at t block) s p in
-        let keeps' : (block : ℕ) → AllKeep ((body_run others room) block) = λ block rd s p. later_ev rd t others (call_in t others room) (later_calls rd t others room) (tree_at t block) s p in
-        walk_key differ differ' shared id (c.0, bytes_at t.names m) (λ key s. called t (body_run names room) id c vs (call_of t s.next key (map kind_of vs) s.journal) s) (λ key s. called t (body_run others room) id c vs (call_of t s.next key (map kind_of vs) s.journal) s)
+        let keeps : (block : ℕ) → AllKeep (body_run names room block) = λ block rd s p. later_ev rd t names (call_in t names room) (later_calls rd t names room) (tree_at t block) s p in
+        let keeps' : (block : ℕ) → AllKeep (body_run others room block) = λ block rd s p. later_ev rd t others (call_in t others room) (later_calls rd t others room) (tree_at t block) s p in
+        walk_key differ differ' shared id (c.0, bytes_at t.names m) (λ key s. called t (body_run names room) id c vs (call_of t s.next key (map kind_of vs) s.journal) s)
+        (λ key s. called t (body_run others room) id c vs (call_of t s.next key (map kind_of vs) s.journal) s)
         (λ key. keyed_call (body_run names room) keeps id c vs key (map kind_of vs)) (λ key. keyed_call (body_run others room) keeps' id c vs key (map kind_of vs))
-        (λ key e f n s d pre h. walk_called (body_run names room) (body_run others room) walks keeps keeps' id c vs (map kind_of vs) key n s d pre h _ _ (two_calls t first second s.next key (map kind_of vs) (d ∷ pre)))
+        (λ key e f n s d pre h. walk_called (body_run names room) (body_run others room) walks keeps keeps' id c vs (map kind_of vs) key n s d pre h _ _
+        (two_calls t first second s.next key (map kind_of vs) (d ∷ pre)))
         (λ key key' e f n s h. part_called (body_run names room) (body_run others room) walks keeps keeps' id c vs (map kind_of vs) (c.0, bytes_at t.names m) key key' e f n s h) n s pre h
 
     pub walk_calls : (room : ℕ) → WalkCalls differ differ' shared (call_in t names room) (call_in t others room)
     unfolding call_in Keeps
     walk_calls zero id r m vs n s pre h = walk_received id (receiver r) (λ c s. Halt stop.Deep id s) (λ c s. Halt stop.Deep id s) (λ c n s pre h. Halts stop.Deep id s pre h) n s pre h
-    walk_calls (suc room) id r m vs n s pre h = walk_received id (receiver r) (on_class names room id m vs) (on_class others room id m vs) (λ c n s pre h. walk_class room (walk_calls room) id m vs c n s pre h) n s pre h
+    walk_calls (suc room) id r m vs n s pre h = walk_received id (receiver r) (on_class names room id m vs) (on_class others room id m vs)
+        (λ c n s pre h. walk_class room (walk_calls room) id m vs c n s pre h) n s pre h
 
   -- ── whole runs ──
 
@@ -759,10 +779,12 @@ module _ (t : Table) (names others : List Name) (done first second : List Act) w
       (sym (ended_is (outcome.Done v) (at s (pre ++ first)) (pre ++ first) r e).1 ∙ (ended_is (outcome.Done v) (at s (pre ++ second)) (pre ++ second) w f).1)
   along_ends n _ _ r w (Halts x id s pre h) e f = Neither (none_of pre first (ended_is (outcome.Stopped x (record { 0 = id })) (at s (pre ++ first)) (pre ++ first) r e).0)
       (none_of pre second (ended_is (outcome.Stopped x (record { 0 = id })) (at s (pre ++ second)) (pre ++ second) w f).0)
-      (sym (ended_is (outcome.Stopped x (record { 0 = id })) (at s (pre ++ first)) (pre ++ first) r e).1 ∙ (ended_is (outcome.Stopped x (record { 0 = id })) (at s (pre ++ second)) (pre ++ second) w f).1)
+      (sym (ended_is (outcome.Stopped x (record { 0 = id })) (at s (pre ++ first)) (pre ++ first) r e).1 ∙
+      (ended_is (outcome.Stopped x (record { 0 = id })) (at s (pre ++ second)) (pre ++ second) w f).1)
 
   pub runs_part : (room block steps : ℕ) (r w : Run) → Differ names → Differ others → AreShared names others done → script_run t names (call_in t names room) block steps (done ++ first) ≡ Some r
       → script_run t others (call_in t others room) block steps (done ++ second) ≡ Some w → GoOn t names others done first second r w
   runs_part room block steps r w differ differ' shared e f =
-      along_ends 0 _ _ r w (walk_ev differ differ' shared (call_in t names room) (call_in t others room) (walk_calls differ differ' shared room) (λ rd. later_calls rd t names room) (λ rd. later_calls rd t others room)
+      along_ends 0 _ _ r w (walk_ev differ differ' shared (call_in t names room) (call_in t others room) (walk_calls differ differ' shared room) (λ rd. later_calls rd t names room)
+      (λ rd. later_calls rd t others room)
       (tree_at t block) 0 (start steps []) done (refl, omega arith, tt)) e f

@@ -47,13 +47,15 @@ use Rattle.hb_ordered.specs.Sharing.{AreShared, HasKey, IsShared, Meet, NotFull}
 
 -- ── a `def`, a `type`, the first Hold of a call and its last Frees ──
 
-define_one : (limit c : ℕ) (log : List Entry) (k s : ℕ) (a b : Act) → Answers (Defines k s) a → Answers (Defines k s) b → FitsAct limit c (spot (key_of a) log) a → FitsAct limit c (spot (key_of b) log) b → a ≡ b
+define_one : (limit c : ℕ) (log : List Entry) (k s : ℕ) (a b : Act) → Answers (Defines k s) a → Answers (Defines k s) b → FitsAct limit c (spot (key_of a) log) a → FitsAct limit c
+    (spot (key_of b) log) b → a ≡ b
 define_one limit c log _ _ _ _ (Defined key site) (Defined _ _) x y = refl
 define_one limit c log _ _ _ _ (Defined key site) (Undefined s _) x y = absurd (omega (arith, x.0, y))
 define_one limit c log _ _ _ _ (Undefined s key) (Defined _ site) x y = absurd (omega (arith, x, y.0))
 define_one limit c log _ _ _ _ (Undefined s key) (Undefined _ _) x y = refl
 
-declare_one : (limit c : ℕ) (log : List Entry) (k s : ℕ) (a b : Act) → Answers (Declares k s) a → Answers (Declares k s) b → FitsAct limit c (spot (key_of a) log) a → FitsAct limit c (spot (key_of b) log) b → a ≡ b
+declare_one : (limit c : ℕ) (log : List Entry) (k s : ℕ) (a b : Act) → Answers (Declares k s) a → Answers (Declares k s) b → FitsAct limit c (spot (key_of a) log) a → FitsAct limit c
+    (spot (key_of b) log) b → a ≡ b
 declare_one limit c log _ _ _ _ (Retyped key site) (Retyped _ _) x y = refl
 declare_one limit c log _ _ _ _ (Retyped key site) (Held s _ pins) x y = absurd (omega (arith, x.0, y.0, y.1))
 declare_one limit c log _ _ _ _ (Retyped key site) (Worn s _) x y = absurd (omega (arith, x.1, y.1))
@@ -69,9 +71,11 @@ hold_one : (limit c : ℕ) (log : List Entry) (q : CallNo) (key other : KeyId) (
     → FitsAct limit c (spot other.0 log) (Hold q other ty' n') → Hold q key ty n ≡ Hold q other ty' n'
 hold_one limit c log q key other ty ty' n n' same x y =
     let at : spot key.0 log ≡ spot other.0 log = ap (λ (k : KeyId). spot k.0 log) same in
-    ap (λ (k : KeyId). Hold q k ty n) same ∙ ap (λ (o : Option TypeSite). Hold q other o n) (x.0 ∙ ap (λ (s : Spot). s.ty) at ∙ sym y.0) ∙ ap (λ m. Hold q other ty' m) (x.1 ∙ ap (λ (s : Spot). s.changes) at ∙ sym y.1)
+    ap (λ (k : KeyId). Hold q k ty n) same ∙ ap (λ (o : Option TypeSite). Hold q other o n) (x.0 ∙ ap (λ (s : Spot). s.ty) at ∙ sym y.0) ∙ ap (λ m. Hold q other ty' m)
+    (x.1 ∙ ap (λ (s : Spot). s.changes) at ∙ sym y.1)
 
-start_one : (limit c : ℕ) (log : List Entry) (q k : ℕ) (a b : Act) → Answers (Starts q k) a → Answers (Starts q k) b → FitsAct limit c (spot (key_of a) log) a → FitsAct limit c (spot (key_of b) log) b → a ≡ b
+start_one : (limit c : ℕ) (log : List Entry) (q k : ℕ) (a b : Act) → Answers (Starts q k) a → Answers (Starts q k) b → FitsAct limit c (spot (key_of a) log) a → FitsAct limit c
+    (spot (key_of b) log) b → a ≡ b
 start_one limit c log _ _ _ _ (Started q key ty n) (Started _ _ ty' n') x y = hold_one limit c log q key key ty ty' n n' refl x y
 
 end_one : (q k : ℕ) (a b : Act) → Answers (Ends q k) a → Answers (Ends q k) b → a ≡ b
@@ -118,7 +122,8 @@ not_again c q key other start later log a b p =
     let goes : start ++ (p.0 ++ e ∷ b.since) ≡ start ++ a.since =
     sym (append_assoc start p.0 (e ∷ b.since)) ∙ ap (λ l. l ++ e ∷ b.since) p.1 ∙ sym (append_assoc b.before (e ∷ []) b.since) ∙ ap (λ l. l ++ b.since) (sym b.is) ∙ b.goes ∙ sym a.goes in
     let rest : p.0 ++ e ∷ b.since ≡ a.since = append_cancel_left start (p.0 ++ e ∷ b.since) a.since goes in
-    let keeps : KeepsHold q.0 key.0 (acts c p.0) = (keeps_parts q.0 key.0 (acts c p.0) (acts c (e ∷ b.since)) (subst (KeepsHold q.0 key.0) (ap (acts c) (sym rest) ∙ acts_append c p.0 (e ∷ b.since)) a.keeps)).0 in
+    let keeps : KeepsHold q.0 key.0 (acts c p.0) = (keeps_parts q.0 key.0 (acts c p.0) (acts c (e ∷ b.since))
+    (subst (KeepsHold q.0 key.0) (ap (acts c) (sym rest) ∙ acts_append c p.0 (e ∷ b.since)) a.keeps)).0 in
     let held = hold_stays key.0 c q.0 start p.0 keeps (subst (λ l. 1 ≤ times (c, q.0) (spot key.0 l).calls) (sym a.is) (start_holds c q key a.before a.ty a.changes)) in
     let here : 1 ≤ times (c, q.0) (spot key.0 b.before).calls = subst (λ l. 1 ≤ times (c, q.0) (spot key.0 l).calls) p.1 held in
     let none : times (c, q.0) (spot key.0 b.before).calls ≡ 0 = held_stands c q.0 key.0 b.before ∙ ap (count_of key.0) b.none in
@@ -183,7 +188,8 @@ looks_defined : (t : Table) (types : Types) (class : ℕ) (b : Option Body) (m :
 unfolding every_look
 looks_defined t types class b m body declared e f = ap (λ (o : Option Body). every_look t types class o m) e ∙ ap (λ (o : Option MethodTy). every_look t types class (Some body) o) f
 
-looks_taken : (t : Table) (types : Types) (class : ℕ) (b : Option Body) (m : MethodTy) (kinds : List Ty) → takes m kinds ≡ true → looks_of t types class b (Some m) kinds ≡ every_look t types class b (Some m)
+looks_taken : (t : Table) (types : Types) (class : ℕ) (b : Option Body) (m : MethodTy) (kinds : List Ty) → takes m kinds ≡ true → looks_of t types class b
+    (Some m) kinds ≡ every_look t types class b (Some m)
 unfolding every_look
 looks_taken t types class None m kinds fits = refl
 looks_taken t types class (Some b) m kinds fits = rw fits refl
@@ -297,7 +303,8 @@ module _ (t : Table) (limit : ℕ) (names : List Name) (c : ℕ) (log : List Ent
       ]
 
   -- a call that is decided holds each of its looks
-  decided_holds : (a : Key) (site : Option BodySite) (kinds : List Ty) (v : Verdict) → Near a → TakesAt t log mine.0 kinds → IsDecided t names log (c, q.0) mine.0 site kinds v → HoldsName names log (c, q.0) (name_of t a)
+  decided_holds : (a : Key) (site : Option BodySite) (kinds : List Ty) (v : Verdict) → Near a → TakesAt t log mine.0 kinds → IsDecided t names log (c, q.0) mine.0 site kinds v
+      → HoldsName names log (c, q.0) (name_of t a)
   decided_holds a site kinds v x taken d =
       let name : d.name ≡ x.name = place-apart names d.name x.name mine.0 d.is x.named in
       let T = types_in t names log in
@@ -312,7 +319,8 @@ module _ (t : Table) (limit : ℕ) (names : List Name) (c : ℕ) (log : List Ent
       (subst (λ (l : List Key). Contains (map (name_of t) l) (name_of t a)) (sym all) (in_second (name_of t) a x.held x.others)))
 
   -- what is taken next is not held yet
-  not_held : (key : KeyId) (ty : Option TypeSite) (n : ℕ) (look : Key) → place names (name_of t look) ≡ Some key.0 → FitsAct limit c (spot key.0 log) (Hold q key ty n) → HoldsName names log (c, q.0) (name_of t look) → ⊥
+  not_held : (key : KeyId) (ty : Option TypeSite) (n : ℕ) (look : Key) → place names (name_of t look) ≡ Some key.0 → FitsAct limit c (spot key.0 log) (Hold q key ty n) → HoldsName names log
+      (c, q.0) (name_of t look) → ⊥
   not_held key ty n look is fits h =
       let at : h.0 ≡ key.0 = same_Some h.0 key.0 (sym h.1 ∙ is) in
       let one : times (c, q.0) (spot key.0 log).calls ≡ 1 = subst (λ (j : ℕ). times (c, q.0) (spot j log).calls ≡ 1) at h.2 in
@@ -348,7 +356,8 @@ module _ (t : Table) (limit : ℕ) (names : List Name) (c : ℕ) (log : List Ent
       let sites : site ≡ site' = a.defined ∙ sym b.defined in
       let name : a.name ≡ b.name = place-apart names a.name b.name mine.0 a.is b.is in
       let rules : as_fresh v ≡ as_fresh w =
-      a.rules ∙ ap (λ (n : Name). verdict_in t names log n mine.0 site (kinds_of args)) name ∙ ap (λ (o : Option BodySite). verdict_in t names log b.name mine.0 o (kinds_of args)) sites ∙ sym b.rules in
+      a.rules ∙ ap (λ (n : Name). verdict_in t names log n mine.0 site (kinds_of args)) name ∙ ap (λ (o : Option BodySite). verdict_in t names log b.name mine.0 o (kinds_of args)) sites
+      ∙ sym b.rules in
       ap (λ (o : Option BodySite). Call q mine o args v) sites ∙ ap (λ (u : Verdict). Call q mine site' args u) (same_verdict c mine.0 log v w rules x y)
 
 opened : (c : ℕ) (q : CallNo) (k : ℕ) (log : List Entry) (o : IsOpen c q.0 k log) → Began c q (record { 0 = k }) o.start log
@@ -381,7 +390,8 @@ moves names others p j differ same e = place-one others p j differ (sym same ∙
 abbrev IsIdle : Spot → Type 0
 IsIdle s = (s.calls ≡ []) × (s.ty ≡ None)
 
-idle_or : (names others : List Name) (j : ℕ) (s : Spot) (log : List Entry) → IsIdle s → AreShared names others (map (λ e. e.act) log) → (slice_get names j ≡ slice_get others j) ⊎ IsIdle (spot_from j s log)
+idle_or : (names others : List Name) (j : ℕ) (s : Spot) (log : List Entry) → IsIdle s → AreShared names others (map (λ e. e.act) log) → (slice_get names j ≡ slice_get others j) ⊎ IsIdle
+    (spot_from j s log)
 idle_or names others j s [] i h = inr i
 idle_or names others j s (e ∷ log) i h = one e.act h.0 i (λ s i. idle_or names others j s log i h.1)
   where
@@ -490,7 +500,8 @@ module _ (t : Table) (limit : ℕ) (names others : List Name) (differ : Differ n
         | inr (inr h) ↦ inr (inr (holds_moved t names others differ differ' log shared (c, q.0) (name_of t b) h))
       ]
 
-  pub hold_hold : (key other : KeyId) (ty ty' : Option TypeSite) (n n' : ℕ) → Meet names others (Hold q key ty n) (Hold q other ty' n') → HoldsNext t names c q key log → HoldsNext t others c q other log
+  pub hold_hold : (key other : KeyId) (ty ty' : Option TypeSite) (n n' : ℕ) → Meet names others (Hold q key ty n) (Hold q other ty' n') → HoldsNext t names c q key log
+      → HoldsNext t others c q other log
       → FitsAct limit c (spot key.0 log) (Hold q key ty n) → FitsAct limit c (spot other.0 log) (Hold q other ty' n')
       → (Hold q key ty n ≡ Hold q other ty' n') × (slice_get names key.0 ≡ slice_get others key.0)
   hold_hold key other ty ty' n n' meet a b x y = elim (meet_looks a.look b.look a.next b.next) [

@@ -18,7 +18,8 @@ pub define_answers : (key site : ℕ) (a : Act) (r : Result Value Stop) → defi
 define_answers key site (Define k s) r e = go (nat_eq k.0 key && nat_eq s.0 site) refl e
   where
     go : (b : Bool) → (nat_eq k.0 key && nat_eq s.0 site) ≡ b → (if b then Some (Ok value.Nil) else None) ≡ Some r → Answers (Defines key site) (Define k s)
-    go true t e = let x = and_both _ _ t in subst (λ n. Answers (Defines n site) (Define k s)) (eqb-true k.0 key x.0) (subst (λ n. Answers (Defines k.0 n) (Define k s)) (eqb-true s.0 site x.1) (Defined k s))
+    go true t e = let x = and_both _ _ t in subst (λ n. Answers (Defines n site) (Define k s)) (eqb-true k.0 key x.0)
+        (subst (λ n. Answers (Defines k.0 n) (Define k s)) (eqb-true s.0 site x.1) (Defined k s))
     go false t e = absurd (none-some r e)
 define_answers key site (WornDef k) r e = go (nat_eq k.0 key) refl e
   where
@@ -36,7 +37,8 @@ pub declare_answers : (asks : Bool) (key site : ℕ) (a : Act) (r : Result Value
 declare_answers asks key site (Retype k s) r e = go (nat_eq k.0 key && nat_eq s.0 site) refl e
   where
     go : (b : Bool) → (nat_eq k.0 key && nat_eq s.0 site) ≡ b → (if b then Some (changed asks) else None) ≡ Some r → Answers (Declares key site) (Retype k s)
-    go true t e = let x = and_both _ _ t in subst (λ n. Answers (Declares n site) (Retype k s)) (eqb-true k.0 key x.0) (subst (λ n. Answers (Declares k.0 n) (Retype k s)) (eqb-true s.0 site x.1) (Retyped k s))
+    go true t e = let x = and_both _ _ t in subst (λ n. Answers (Declares n site) (Retype k s)) (eqb-true k.0 key x.0)
+        (subst (λ n. Answers (Declares k.0 n) (Retype k s)) (eqb-true s.0 site x.1) (Retyped k s))
     go false t e = absurd (none-some r e)
 declare_answers asks key site (Busy k pins) r e = go (nat_eq k.0 key) refl e
   where

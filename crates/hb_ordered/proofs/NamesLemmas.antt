@@ -1,11 +1,12 @@
 -- The names that common acts ask for, by two lists.
-use Rattle.std.proofs.Common.{◌≡◌, ◌⊎◌, inl, inr, ℕ, ◌+◌, ◌≤◌, Bool, true, false, cond, eqb, map, List, [], ◌∷◌, ◌++◌, length, length-append, Option, Some, None, refl, sym, ap, ◌∙◌, subst, arith, append_assoc}
+use Rattle.std.proofs.Common.{◌≡◌, ◌⊎◌, inl, inr, ℕ, ◌≤◌, Bool, true, false, cond, eqb, map, List, [], ◌∷◌, ◌++◌, length, length-append}
+use Rattle.std.proofs.Common.{Option, Some, None, refl, sym, ap, ◌∙◌, subst, arith}
 use Rattle.std.specs.Prelude.{slice_get}
 use Rattle.std.proofs.lemmas.List.{append-nil, map-append}
 use Rattle.std.proofs.lemmas.Option.{none-some, same_Some}
 use mathlib.Core.List.{IsPrefix}
 use Rattle.hb_names.specs.declared.names.TheConstants.{NAMES_MAX}
-use Rattle.hb_names.specs.Names.{Differ, IsFull, Name, place, with_name}
+use Rattle.hb_names.specs.Names.{IsFull, Name, place, with_name}
 use Rattle.hb_names.proofs.NameLemmas.{place-at, place-last, place-longer, with_name-begins, with_name-known, with_name-new}
 use Rattle.hb_tables.specs.declared.entry.Act.{Act}
 use Rattle.hb_tables.specs.declared.entry.Act.TheVariants.{Hold, Free, Retype, Busy, WornType, Define, WornDef, Call}
@@ -56,6 +57,17 @@ frees_part (WornType key ∷ l) m h = absurd h
 frees_part (Define key site ∷ l) m h = absurd h
 frees_part (WornDef key ∷ l) m h = absurd h
 frees_part (Call q key site args v ∷ l) m h = absurd h
+
+-- where an act asks by this key, both lists have one name there
+pub shared_at : (names others : List Name) (k : ℕ) (a : Act) → IsShared names others a → HasKey k a → slice_get names k ≡ slice_get others k
+shared_at names others k (Hold p key ty n) h e = subst (λ j. slice_get names j ≡ slice_get others j) e h
+shared_at names others k (Free p key) h e = absurd e
+shared_at names others k (Retype key site) h e = subst (λ j. slice_get names j ≡ slice_get others j) e h
+shared_at names others k (Busy key pins) h e = subst (λ j. slice_get names j ≡ slice_get others j) e h
+shared_at names others k (WornType key) h e = subst (λ j. slice_get names j ≡ slice_get others j) e h
+shared_at names others k (Define key site) h e = subst (λ j. slice_get names j ≡ slice_get others j) e h
+shared_at names others k (WornDef key) h e = subst (λ j. slice_get names j ≡ slice_get others j) e h
+shared_at names others k (Call p key site args v) h e = absurd e
 
 -- ── the names that are asked for ──
 
@@ -127,8 +139,10 @@ next_key names l m a p k e has is = go (place (asked_after names [] l) p) refl
   where
     begins : IsPrefix (with_name (asked_after names [] l) p) names
     begins =
-        let named : asked_by names (asked_after names [] l) a ≡ with_name (asked_after names [] l) p = key_asks names (asked_after names [] l) k a has ∙ ap (with_found (asked_after names [] l)) (place-at names p k is) in
-        subst (λ w. IsPrefix w names) named (subst (IsPrefix (asked_by names (asked_after names [] l) a)) (sym (e ∙ asked_append names [] l (a ∷ m))) (asked_grows names (asked_by names (asked_after names [] l) a) m))
+        let named : asked_by names (asked_after names [] l) a ≡ with_name (asked_after names [] l) p = key_asks names (asked_after names [] l) k a has ∙ ap (with_found (asked_after names [] l))
+        (place-at names p k is) in
+        subst (λ w. IsPrefix w names) named (subst (IsPrefix (asked_by names (asked_after names [] l) a)) (sym (e ∙ asked_append names [] l (a ∷ m)))
+        (asked_grows names (asked_by names (asked_after names [] l) a) m))
 
     go : (o : Option ℕ) → place (asked_after names [] l) p ≡ o → (place (asked_after names [] l) p ≡ Some k) ⊎ (k ≡ length (asked_after names [] l))
     go (Some i) f =
@@ -139,7 +153,8 @@ next_key names l m a p k e has is = go (place (asked_after names [] l) p) refl
         (subst (λ w. IsPrefix w names) (with_name-new (asked_after names [] l) p f) begins) (place-last (asked_after names [] l) p f) in
         inr (same_Some k (length (asked_after names [] l)) (sym is ∙ last))
 
-pub meets_at : (names others : List Name) (l m m' : List Act) (a b : Act) → AreShared names others l → names ≡ asked_after names [] (l ++ a ∷ m) → others ≡ asked_after others [] (l ++ b ∷ m') → Meet names others a b
+pub meets_at : (names others : List Name) (l m m' : List Act) (a b : Act) → AreShared names others l → names ≡ asked_after names [] (l ++ a ∷ m) → others ≡ asked_after others [] (l ++ b ∷ m')
+    → Meet names others a b
 meets_at names others l m m' a b shared e f p k j x y ha hb =
     let same : asked_after names [] l ≡ asked_after others [] l = asked_same names others [] l shared in
     elim (next_key names l m a p k e ha x) [
@@ -166,7 +181,8 @@ pub prefix_never : (names others : List Name) → IsPrefix names others → leng
 prefix_never names others begins few p k full has = none-some k (sym full.1 ∙ ap (λ w. place w p) (full_is names others begins full.0 few) ∙ has)
 
 -- where all names of one list are asked for by common acts and Frees, it begins the other one
-pub asked_begins : (names others : List Name) (l fs m : List Act) → AreShared names others l → AreFrees fs → names ≡ asked_after names [] (l ++ fs) → others ≡ asked_after others [] (l ++ m) → IsPrefix names others
+pub asked_begins : (names others : List Name) (l fs m : List Act) → AreShared names others l → AreFrees fs → names ≡ asked_after names [] (l ++ fs) → others ≡ asked_after others [] (l ++ m)
+    → IsPrefix names others
 asked_begins names others l fs m shared frees e f =
     let all : asked_after others [] l ≡ names = sym (asked_same names others [] l shared) ∙ sym (asked_frees names (asked_after names [] l) fs frees) ∙ sym (asked_append names [] l fs) ∙ sym e in
     subst (λ w. IsPrefix w others) all (asked_front others l m f)

@@ -8,7 +8,7 @@ use Rattle.std.proofs.lemmas.Option.{same_Some}
 use Rattle.hb_types.specs.declared.ids.NodeId.{NodeId}
 use Rattle.hb_tree.specs.Table.{Table}
 use Rattle.hb_names.specs.declared.names.TheConstants.{NAMES_MAX}
-use Rattle.hb_names.specs.Names.{Differ, IsFull, Name, place}
+use Rattle.hb_names.specs.Names.{Differ, Name}
 use Rattle.hb_call.specs.Growth.{asked_after}
 use Rattle.hb_eval.specs.declared.stop.Outcome.TheVariants as outcome
 use Rattle.hb_eval.specs.declared.stop.Stop.TheVariants as stop
@@ -26,7 +26,7 @@ use Rattle.hb_eval.specs.Runs.{Run, script_run}
 use Rattle.hb_eval.specs.Told.{Told, is_done, told}
 use Rattle.hb_run.specs.History.{AreAllRuns, AreRuns, HasCaller, IsHistory, IsRunOf, RunBehind, block_of, callers_from}
 use Rattle.hb_ordered.specs.Asking.{IsAnswer}
-use Rattle.hb_ordered.specs.Parting.{FirstLacks, GoOn, Lacks, Neither, Part, Parted, Parting, SecondLacks}
+use Rattle.hb_ordered.specs.Parting.{FirstLacks, GoOn, Lacks, Neither, Part, Parted, SecondLacks}
 use Rattle.hb_ordered.specs.Sharing.{AreShared, IsShared, Meet, NotFull}
 use Rattle.hb_ordered.specs.Turns.{AreAmong, among}
 use Rattle.hb_turns.specs.Playing.{AreNumbered, Taken, entries_by, entries_of, turns_by}
@@ -95,14 +95,16 @@ abbrev IsAlone : List Entry → Run → Type 0
 IsAlone log r = (id : NodeId) → r.outcome ≡ outcome.Stopped stop.Full id → log ≡ entries_by 0 (acts 0 log)
 
 setup_never : (names others : List Name) (log log' rest : List Entry) (r : Run) (P X Y : List Act) → log' ≡ entries_by 0 (acts 0 log') ++ rest → names ≡ asked_after names [] (doings log)
-    → others ≡ asked_after others [] (doings log') → length others ≤ NAMES_MAX → IsAlone log r → acts 0 log ≡ P ++ X → acts 0 log' ≡ P ++ Y → AreShared names others P → (w : Run) → Lacks names others P X Y r w → ⊥
+    → others ≡ asked_after others [] (doings log') → length others ≤ NAMES_MAX → IsAlone log r → acts 0 log ≡ P ++ X → acts 0 log' ≡ P ++ Y → AreShared names others P → (w : Run)
+    → Lacks names others P X Y r w → ⊥
 setup_never names others log log' rest r P X Y is asked asked' few alone e f shared w l =
     prefix_never names others (asked_begins names others P X (Y ++ doings rest) shared l.stops.frees
     (asked ∙ ap (λ k. asked_after names [] (doings k)) (alone l.stops.id l.stops.stops) ∙ ap (asked_after names []) (doings_by 0 (acts 0 log) ∙ e))
     (asked' ∙ ap (λ k. asked_after others [] (doings k)) is ∙ ap (asked_after others []) (doings_join (entries_by 0 (acts 0 log')) rest
     ∙ ap (λ k. k ++ doings rest) (doings_by 0 (acts 0 log') ∙ f) ∙ append_assoc P Y (doings rest)))) few l.name l.key l.full l.has
 
-module _ (t : Table) (steps : ℕ) (names others : List Name) (differ : Differ names) (differ' : Differ others) (few : length names ≤ NAMES_MAX) (few' : length others ≤ NAMES_MAX) (log log' rest rest' : List Entry)
+module _ (t : Table) (steps : ℕ) (names others : List Name) (differ : Differ names) (differ' : Differ others) (few : length names ≤ NAMES_MAX) (few' : length others ≤ NAMES_MAX)
+    (log log' rest rest' : List Entry)
     (is : log ≡ entries_by 0 (acts 0 log) ++ rest) (is' : log' ≡ entries_by 0 (acts 0 log') ++ rest')
     (asked : names ≡ asked_after names [] (doings log)) (asked' : others ≡ asked_after others [] (doings log')) (alike : GoOnAlike t names others log log') (block : ℕ) (r w : Run)
     (alone : IsAlone log r) (alone' : IsAlone log' w)
@@ -119,16 +121,19 @@ module _ (t : Table) (steps : ℕ) (names others : List Name) (differ : Differ n
 
   at_place : (all others : List Entry) (early since later : List Act) (a : Act) (P X : List Act) → all ≡ entries_by 0 (acts 0 all) ++ others → acts 0 all ≡ P ++ X → early ++ since ≡ P → X ≡ a ∷ later
       → all ≡ (entries_by 0 early ++ entries_by 0 since) ++ entry 0 a ∷ (entries_by 0 later ++ others)
-  at_place all others early since later a P X is e f g = is ∙ ap (λ l. entries_by 0 l ++ others) (e ∙ ap (λ l. l ++ X) (sym f) ∙ ap (λ l. (early ++ since) ++ l) g) ∙ entries_cut 0 [] others early since later a
+  at_place all others early since later a P X is e f g = is ∙ ap (λ l. entries_by 0 l ++ others) (e ∙ ap (λ l. l ++ X) (sym f) ∙ ap (λ l. (early ++ since) ++ l) g)
+      ∙ entries_cut 0 [] others early since later a
 
-  same_head : (P X Y : List Act) → acts 0 log ≡ P ++ X → acts 0 log' ≡ P ++ Y → AreShared names others P → (part : Part t names others P X Y r w) → (part.at.a ≡ part.at.b) × IsShared names others part.at.a
+  same_head : (P X Y : List Act) → acts 0 log ≡ P ++ X → acts 0 log' ≡ P ++ Y → AreShared names others P → (part : Part t names others P X Y r w) → (part.at.a ≡ part.at.b)
+      × IsShared names others part.at.a
   same_head P X Y e f shared part =
       let p = part.at in
       let early = plain p.state.read in
       let one = at_place log rest early p.since p.behind_a p.a P X is e p.read p.is_a in
       let two = at_place log' rest' early p.since p.behind_b p.b P Y is' f p.read p.is_b in
       let here : AreShared names others (doings (entries_by 0 early ++ entries_by 0 p.since)) = subst (AreShared names others)
-      (sym (doings_join (entries_by 0 early) (entries_by 0 p.since) ∙ ap (λ l. l ++ doings (entries_by 0 p.since)) (doings_by 0 early) ∙ ap (λ l. early ++ l) (doings_by 0 p.since) ∙ p.read)) shared in
+      (sym (doings_join (entries_by 0 early) (entries_by 0 p.since) ∙ ap (λ l. l ++ doings (entries_by 0 p.since)) (doings_by 0 early) ∙ ap (λ l. early ++ l) (doings_by 0 p.since)
+      ∙ p.read)) shared in
       let stays : NotFull names others p.question p.a p.b = λ own q full has. setup_never names others log log' rest' r P X Y is' asked asked' few' alone e f shared w (record {
         begun = p.state.begun;
         read = p.state.read ++ tagged p.state.begun p.since;
@@ -140,7 +145,8 @@ module _ (t : Table) (steps : ℕ) (names others : List Name) (differ : Differ n
         b = p.b;
         behind = p.behind_b;
         is = p.is_b;
-        goes_on = subst (λ l. IsPrefix l w.acts) (ap (λ l. p.state.read ++ l) (tagged_append p.state.begun p.since (p.b ∷ [])) ∙ sym (append_assoc p.state.read (tagged p.state.begun p.since) ((p.state.begun, p.b) ∷ []))) part.second_read;
+        goes_on = subst (λ l. IsPrefix l w.acts) (ap (λ l. p.state.read ++ l) (tagged_append p.state.begun p.since (p.b ∷ [])) ∙ sym
+            (append_assoc p.state.read (tagged p.state.begun p.since) ((p.state.begun, p.b) ∷ []))) part.second_read;
         stops = part.first_stops own;
       }) in
       let stays' : NotFull others names p.other p.b p.a = λ own q full has. setup_never others names log' log rest w P Y X is asked' asked few alone' f e (all_back names others P shared) r (record {
@@ -154,7 +160,8 @@ module _ (t : Table) (steps : ℕ) (names others : List Name) (differ : Differ n
         b = p.a;
         behind = p.behind_a;
         is = p.is_a;
-        goes_on = subst (λ l. IsPrefix l r.acts) (ap (λ l. p.state.read ++ l) (tagged_append p.state.begun p.since (p.a ∷ [])) ∙ sym (append_assoc p.state.read (tagged p.state.begun p.since) ((p.state.begun, p.a) ∷ []))) part.first_read;
+        goes_on = subst (λ l. IsPrefix l r.acts) (ap (λ l. p.state.read ++ l) (tagged_append p.state.begun p.since (p.a ∷ [])) ∙ sym
+            (append_assoc p.state.read (tagged p.state.begun p.since) ((p.state.begun, p.a) ∷ []))) part.first_read;
         stops = part.second_stops own;
       }) in
       alike 0 (entries_by 0 early) (entries_by 0 p.behind_a ++ rest) (entries_by 0 p.behind_b ++ rest') P X Y p (acts_by_itself 0 early) one two here stays stays'
@@ -169,7 +176,8 @@ module _ (t : Table) (steps : ℕ) (names others : List Name) (differ : Differ n
         | inr part ↦ (let same = same_head P (x ∷ X) (y ∷ Y) e f shared part in let i : x ≡ part.at.a = (let h : x ∷ X ≡ part.at.a ∷ part.at.behind_a = part.at.is_a in cc h) in
             let j : y ≡ part.at.b = (let h : y ∷ Y ≡ part.at.b ∷ part.at.behind_b = part.at.is_b in cc h) in (i ∙ same.0 ∙ sym j, subst (IsShared names others) (sym i) same.1))
       ] in
-      let more = same_behind (P ++ x ∷ []) X Y (e ∙ sym (append_assoc P (x ∷ []) X)) (f ∙ ap (λ z. P ++ z ∷ Y) (sym one.0) ∙ sym (append_assoc P (x ∷ []) Y)) (shared_both names others P (x ∷ []) shared (one.1, tt)) in
+      let more = same_behind (P ++ x ∷ []) X Y (e ∙ sym (append_assoc P (x ∷ []) X)) (f ∙ ap (λ z. P ++ z ∷ Y) (sym one.0) ∙ sym (append_assoc P (x ∷ []) Y))
+      (shared_both names others P (x ∷ []) shared (one.1, tt)) in
       (ap (λ z. z ∷ X) one.0 ∙ ap (λ l. y ∷ l) more.0, (one.1, more.1))
 
   -- the setup does the same
@@ -193,13 +201,18 @@ record Scripted (t : Table) (steps : ℕ) (order : List ℕ) (names : List Name)
   pub asked : names ≡ asked_after names [] (doings log)
   pub all : AreAllByThen t steps names (entries_by 0 (acts 0 log)) log turns
 
-scripted : (t : Table) (limit steps : ℕ) (order : List ℕ) (names : List Name) (log : List Entry) (runs : List Told) → IsOrdered t limit steps order names log runs → Scripted t steps order names log
+scripted : (t : Table) (limit steps : ℕ) (order : List ℕ) (names : List Name) (log : List Entry) (runs : List Told) → IsOrdered t limit steps order names log runs
+    → Scripted t steps order names log
 scripted t limit steps order names log runs a = record {
   turns = only (callers_from 1 t.scripts) a.turns;
   is = first_of t log a.start a.turns a.history.in_turn a.history.callers a.is a.setup;
   numbers = numbers_only (callers_from 1 t.scripts) a.turns a.numbers;
   in_order = order_only (callers_from 1 t.scripts) order a.turns a.in_order;
-  tagged = elim a.tagged [ inl none ↦ inl (ap (only (callers_from 1 t.scripts)) none) | inr x ↦ inr (tagged_only t names steps log a.turns (callers_from 1 t.scripts) (callers_from 1 t.scripts) (λ d e. e) x) ];
+  tagged = elim a.tagged [
+    | inl none ↦ inl (ap (only (callers_from 1 t.scripts)) none)
+    | inr x ↦ inr
+        (tagged_only t names steps log a.turns (callers_from 1 t.scripts) (callers_from 1 t.scripts) (λ d e. e) x)
+  ];
   mine = only_among (callers_from 1 t.scripts) a.turns;
   asked = a.asked;
   all = then_only t steps names log a.start a.turns a.history.in_turn a.history.callers a.is a.setup a.all_by_then;
@@ -236,7 +249,8 @@ own_of : (log : List Entry) → Every (λ before e. e.caller.0 ≡ 0) log → Ar
 own_of [] h = tt
 own_of (e ∷ l) h = (h [] l e refl, own_of l (λ b a x is. h (e ∷ b) a x (ap (λ (z : List Entry). e ∷ z) is)))
 
-runs_at : (t : Table) (names : List Name) (steps : ℕ) (log : List Entry) (cs : List ℕ) (rs : List Told) (c : ℕ) → AreRuns t names steps log cs rs → among c cs ≡ true → (r : Told) × IsRunOf t names steps log c r
+runs_at : (t : Table) (names : List Name) (steps : ℕ) (log : List Entry) (cs : List ℕ) (rs : List Told) (c : ℕ) → AreRuns t names steps log cs rs → among c cs ≡ true → (r : Told)
+    × IsRunOf t names steps log c r
 runs_at t names steps log [] rs c h e = absurd (cc e)
 runs_at t names steps log (d ∷ ds) [] c h e = absurd h
 runs_at t names steps log (d ∷ ds) (r ∷ rs) c h e = go (eqb c d) refl e (runs_at t names steps log ds rs c h.1)
@@ -304,13 +318,15 @@ module _ (t : Table) (steps : ℕ) (names others : List Name) (differ : Differ n
 
 -- ── one history ──
 
-no_acts_of_setup : (t : Table) (steps : ℕ) (order : List ℕ) (names : List Name) (log : List Entry) → Scripted t steps order names log → Every (λ before e. HasCaller t e) log → t.setup ≡ None → acts 0 log ≡ []
+no_acts_of_setup : (t : Table) (steps : ℕ) (order : List ℕ) (names : List Name) (log : List Entry) → Scripted t steps order names log → Every (λ before e. HasCaller t e) log → t.setup ≡ None
+    → acts 0 log ≡ []
 no_acts_of_setup t steps order names log s callers none =
     let empty = no_setup t (entries_by 0 (acts 0 log)) (entries_of s.turns) (own_by (acts 0 log)) (subst (Every (λ before e. HasCaller t e)) s.is callers) none in
     sym (acts_by_itself 0 (acts 0 log)) ∙ ap (acts 0) empty
 
 -- behind a setup that stopped there are no other entries
-setup_alone : (t : Table) (steps : ℕ) (names : List Name) (log : List Entry) (r : Told) (rs : List Told) (x : IsRunOf t names steps log 0 r) → RunBehind t names steps log (is_done r.outcome) rs → IsAlone log x.run
+setup_alone : (t : Table) (steps : ℕ) (names : List Name) (log : List Entry) (r : Told) (rs : List Told) (x : IsRunOf t names steps log 0 r) → RunBehind t names steps log (is_done r.outcome) rs
+    → IsAlone log x.run
 setup_alone t steps names log r rs x behind id stops =
     let stopped : RunBehind t names steps log false rs = subst (λ (d : Bool). RunBehind t names steps log d rs) (ap (λ (z : Told). is_done z.outcome) x.tells ∙ ap is_done stops) behind in
     own_all log (own_of log stopped.1)
@@ -320,7 +336,8 @@ module _ (t : Table) (limit steps : ℕ) (order : List ℕ) (names others : List
   alike : GoOnAlike t names others log log'
   alike = go_on_alike t limit steps names others log log' runs runs' h k a.asked b.asked
 
-  zero_one : (o : Option NodeId) → t.setup ≡ o → (rs ss : List Told) → AreAllRuns t names steps log o rs → AreAllRuns t others steps log' o ss → (acts 0 log ≡ acts 0 log') × AreShared names others (acts 0 log)
+  zero_one : (o : Option NodeId) → t.setup ≡ o → (rs ss : List Told) → AreAllRuns t names steps log o rs → AreAllRuns t others steps log' o ss → (acts 0 log ≡ acts 0 log')
+      × AreShared names others (acts 0 log)
   zero_one None none rs ss x y =
       let mine = no_acts_of_setup t steps order names log a h.callers none in
       (mine ∙ sym (no_acts_of_setup t steps order others log' b k.callers none), subst (AreShared names others) (sym mine) tt)
@@ -345,11 +362,13 @@ module _ (t : Table) (limit steps : ℕ) (order : List ℕ) (names others : List
       let longer : log' ≡ log ++ entries_of b.turns = b.is ∙ ap (λ l. entries_by 0 l ++ entries_of b.turns) (sym zero.0) ∙ ap (λ l. l ++ entries_of b.turns) (sym alone) in
       let begins : IsPrefix names others = asked_begins names others (doings log) [] (doings (entries_of b.turns)) shared tt (a.asked ∙ ap (asked_after names []) (sym (append-nil (doings log))))
       (b.asked ∙ ap (λ l. asked_after others [] (doings l)) longer ∙ ap (asked_after others []) (doings_join log (entries_of b.turns))) in
-      let silent : (c : ℕ) → among c (callers_from 1 t.scripts) ≡ true → acts c log ≡ [] = λ c real. ap (acts c) alone ∙ own_idle 0 c (entries_by 0 (acts 0 log)) (not_zero c t.scripts real) (own_by (acts 0 log)) in
+      let silent : (c : ℕ) → among c (callers_from 1 t.scripts) ≡ true → acts c log ≡ [] = λ c real. ap (acts c) alone ∙ own_idle 0 c (entries_by 0 (acts 0 log)) (not_zero c t.scripts real)
+      (own_by (acts 0 log)) in
       let others_none : (c : ℕ) → among c (callers_from 1 t.scripts) ≡ true → acts c log' ≡ [] =
       scripts_none t steps names others h.differ k.differ log log' begins k.few t.setup runs runs' h.all_runs k.all_runs zero.0 zero.1 silent in
       let empty : entries_of b.turns ≡ [] = no_entries (callers_from 1 t.scripts) b.turns b.mine (λ c real.
-      right_none (acts c (entries_by 0 (acts 0 log'))) (acts c (entries_of b.turns)) (sym (acts_append c (entries_by 0 (acts 0 log')) (entries_of b.turns)) ∙ ap (acts c) (sym b.is) ∙ others_none c real)) in
+      right_none (acts c (entries_by 0 (acts 0 log'))) (acts c (entries_of b.turns)) (sym (acts_append c (entries_by 0 (acts 0 log')) (entries_of b.turns)) ∙ ap (acts c) (sym b.is)
+      ∙ others_none c real)) in
       (sym (longer ∙ ap (λ l. log ++ l) empty ∙ append-nil log), shared)
 
   walked : AreTagged t names steps log a.turns (callers_from 1 t.scripts) → AreTagged t others steps log' b.turns (callers_from 1 t.scripts) → (log ≡ log') × AreShared names others (doings log)
@@ -376,7 +395,8 @@ module _ (t : Table) (limit steps : ℕ) (order : List ℕ) (names others : List
         few = k.few;
         all = subst (λ (l : List Act). AreAllByThen t steps others (entries_by 0 l) log' b.turns) (sym zero.0) b.all;
       } in
-      one_log t steps names others (entries_by 0 (acts 0 log)) log log' a.turns b.turns one two alike order (subst (AreShared names others) (sym (doings_by 0 (acts 0 log))) zero.1) a.in_order b.in_order
+      one_log t steps names others (entries_by 0 (acts 0 log)) log log' a.turns b.turns one two alike order
+      (subst (AreShared names others) (sym (doings_by 0 (acts 0 log))) zero.1) a.in_order b.in_order
 
 one_list : (t : Table) (limit steps : ℕ) (order : List ℕ) (names others : List Name) (log log' : List Entry) (runs runs' : List Told) → IsHistory t limit steps names log runs
     → IsHistory t limit steps others log' runs' → Scripted t steps order names log → Scripted t steps order others log' → (log ≡ log') × AreShared names others (doings log)
@@ -390,10 +410,11 @@ one_list t limit steps order names others log log' runs runs' h k a b = go a.tag
         (sym r.0, all_back others names (doings log) (subst (λ l. AreShared others names (doings l)) r.0 r.1))
     go (inr x) (inr y) = walked t limit steps order names others log log' runs runs' h k a b x y
 
-pub one_history : (t : Table) (limit steps : ℕ) (order : List ℕ) (names others : List Name) (log log' : List Entry) (runs runs' : List Told)
-    → IsOrdered t limit steps order names log runs → IsOrdered t limit steps order others log' runs' → (names ≡ others) × (log ≡ log') × (runs ≡ runs')
+pub one_history : (t : Table) (limit steps : ℕ) (order : List ℕ) (names others : List Name) (log log' : List Entry) (runs runs' : List Told) → IsOrdered t limit steps order names log runs
+    → IsOrdered t limit steps order others log' runs' → (names ≡ others) × (log ≡ log') × (runs ≡ runs')
 one_history t limit steps order names others log log' runs runs' a b =
     let r = one_list t limit steps order names others log log' runs runs' a.history b.history (scripted t limit steps order names log runs a) (scripted t limit steps order others log' runs' b) in
     let lists : names ≡ others = a.asked ∙ asked_same names others [] (doings log) r.1 ∙ ap (λ l. asked_after others [] (doings l)) r.0 ∙ sym b.asked in
-    let mine : AreAllRuns t others steps log' t.setup runs = subst (λ ns. AreAllRuns t ns steps log' t.setup runs) lists (subst (λ l. AreAllRuns t names steps l t.setup runs) r.0 a.history.all_runs) in
+    let mine : AreAllRuns t others steps log' t.setup runs = subst (λ ns. AreAllRuns t ns steps log' t.setup runs) lists
+    (subst (λ l. AreAllRuns t names steps l t.setup runs) r.0 a.history.all_runs) in
     (lists, r.0, all_one t others steps log' t.setup runs runs' mine b.history.all_runs)

@@ -24,7 +24,8 @@ use Rattle.hb_call.specs.Reading.{takes_at}
 use Rattle.hb_call.specs.Rules.{Began, GivesUp}
 use Rattle.hb_turns.specs.Playing.{entries_by}
 use Rattle.hb_turns.proofs.PlayingLemmas.{acts_by_itself}
-use Rattle.hb_ordered.specs.Asking.{FitsArguments, TakesAt, Question, Defines, Declares, Starts, Goes, Ends, Answers, Started, IsAnswer, IsAsked, IsOpen, AsksOne, DefineOne, DeclareOne, StartOne, GoOne, EndOne}
+use Rattle.hb_ordered.specs.Asking.{FitsArguments, TakesAt, Question, Defines, Declares, Starts, Goes, Ends, Answers, Started, IsAnswer, IsAsked}
+use Rattle.hb_ordered.specs.Asking.{IsOpen, AsksOne, DefineOne, DeclareOne, StartOne, GoOne, EndOne}
 use Rattle.hb_ordered.specs.Sharing.{AreShared, IsShared, Meet, NotFull}
 use Rattle.hb_ordered.specs.Parting.{GoesPast, first_takes, IsBelow, IsFresh, IsFreshFor, IsReadFor, IsSoFar, IsWithin, Parting, is_of}
 use Rattle.hb_ordered.proofs.FitsLemmas.{began_takes}
@@ -170,7 +171,8 @@ module _ (c q : ℕ) (p : CallNo) (key : KeyId) (ty : Option TypeSite) (n : ℕ)
           let whole : start ++ entries_by c more ≡ start ++ (rest ++ entry c (Free r g.key) ∷ g.since) = goes ∙ g.is ∙ ap (λ l. l ++ entry c (Free r g.key) ∷ g.since) (sym e)
           ∙ append_assoc start rest (entry c (Free r g.key) ∷ g.since) in
           let parts = append_cancel_left start (entries_by c more) (rest ++ entry c (Free r g.key) ∷ g.since) whole in
-          (keeps_parts q key.0 (acts c rest) (acts c (entry c (Free r g.key) ∷ g.since)) (subst (KeepsHold q key.0) (ap (acts c) parts ∙ acts_append c rest (entry c (Free r g.key) ∷ g.since)) all_keep)).0
+          (keeps_parts q key.0 (acts c rest) (acts c (entry c (Free r g.key) ∷ g.since)) (subst (KeepsHold q key.0)
+          (ap (acts c) parts ∙ acts_append c rest (entry c (Free r g.key) ∷ g.since)) all_keep)).0
 
       in_start : (rest : List Entry) → start ≡ g.at ++ entry c (Free r g.key) ∷ rest → ⊥
       in_start rest e = first (all_at (λ a. is_of q a ≡ false) (λ a. a ≡ Hold p key ty n) (λ a. (is_of q a ≡ false) ⊎ (a ≡ Hold p key ty n)) (λ a h. inl h) (λ a h. inr h) (acts c before)
@@ -185,7 +187,8 @@ module _ (c q : ℕ) (p : CallNo) (key : KeyId) (ty : Option TypeSite) (n : ℕ)
           → (IsPrefix start g.at) ⊎ ((rest : List Entry) × (start ≡ g.at ++ entry c (Free r g.key) ∷ rest)) → r ≡ p → ⊥
       go (inl h) w one = let same = eq-eqb q r.0 (sym mine) in cc (same, h)
       go (inr (inl h)) w one = cc h
-      go (inr (inr h)) (inl w) one = other_key g.key h.1 (one_began c p g.key key g.start start g.at (subst (λ (x : CallNo). Began c x g.key g.start g.at) one g.began) (began_to g.at w.0 w.1 (behind w.0 w.1))).0
+      go (inr (inr h)) (inl w) one = other_key g.key h.1 (one_began c p g.key key g.start start g.at (subst (λ (x : CallNo). Began c x g.key g.start g.at) one g.began)
+          (began_to g.at w.0 w.1 (behind w.0 w.1))).0
       go (inr (inr h)) (inr w) one = in_start w.0 w.1
 
   open_here : IsOpen c q key.0 log
@@ -196,7 +199,8 @@ module _ (c q : ℕ) (p : CallNo) (key : KeyId) (ty : Option TypeSite) (n : ℕ)
     key_is = refl;
     start = start;
     began = began_to log (entries_by c more) goes all_keep;
-    same = ap (λ l. (spot key.0 l).redefs) (sym goes) ∙ ap (λ (s : Spot). s.redefs) (spot_from_append key.0 blank start (entries_by c more)) ∙ redefs_within q key.0 c key.0 (spot key.0 start) more within;
+    same = ap (λ l. (spot key.0 l).redefs) (sym goes) ∙ ap (λ (s : Spot). s.redefs) (spot_from_append key.0 blank start (entries_by c more)) ∙ redefs_within q key.0 c key.0
+        (spot key.0 start) more within;
     undecided = no_call;
     goes_on = goes_on;
   }
@@ -273,12 +277,14 @@ read_other names others n _ _ l (EndOne q k) h = h
 
 pub next_one : (t : Table) (limit : ℕ) (names others : List Name) (c : ℕ) (before : List Entry) (common first second : List Act) (x : Parting t names others common first second)
     → Differ names → Differ others → AreShared names others (map (λ e. e.act) (before ++ entries_by c x.since))
-    → IsLegal limit (before ++ entries_by c x.since) → acts c before ≡ map (λ e. e.1) x.state.read → Meet names others x.a x.b → NotFull names others x.question x.a x.b → NotFull others names x.other x.b x.a
+    → IsLegal limit (before ++ entries_by c x.since) → acts c before ≡ map (λ e. e.1) x.state.read → Meet names others x.a x.b → NotFull names others x.question x.a x.b
+    → NotFull others names x.other x.b x.a
     → IsAnswer t limit names c (before ++ entries_by c x.since) x.question x.a → IsAnswer t limit others c (before ++ entries_by c x.since) x.other x.b → (x.a ≡ x.b) × IsShared names others x.a
 next_one t limit names others c before common first second x differ differ' shared legal read meet stays stays' a b =
     let below = subst (AllByRecursion (IsBelow x.state.next)) (sym read) x.below in
     let fresh = fresh_for x.state.next x.question (acts c before) x.since x.since_is below in
     let since' = read_other names others x.state.next x.question x.other x.since x.one x.since_is in
     let fresh' = fresh_for x.state.next x.other (acts c before) x.since since' below in
-    one_answer t limit names others differ differ' c (before ++ entries_by c x.since) shared x.question x.other x.a x.b x.one (asked_of c x.state.next before x.question x.since x.since_is fresh) meet stays stays' a b
+    one_answer t limit names others differ differ' c (before ++ entries_by c x.since) shared x.question x.other x.a x.b x.one
+    (asked_of c x.state.next before x.question x.since x.since_is fresh) meet stays stays' a b
     (fits_of t limit c x.state.next before x.question x.since x.a x.since_is fresh legal x.past_a) (fits_of t limit c x.state.next before x.other x.since x.b since' fresh' legal x.past_b)

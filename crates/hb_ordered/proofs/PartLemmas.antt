@@ -1,5 +1,6 @@
 -- Two readings of a call's acts, which are the same up to a place.
-use Rattle.std.proofs.Common.{◌≡◌, ◌⊎◌, inl, inr, ℕ, suc, ◌+◌, ◌<◌, ◌≤◌, Bool, true, false, List, [], ◌∷◌, ◌++◌, Option, Some, None, refl, sym, ap, ◌∙◌, subst, arith, append_assoc, nat_eq, cond, eqb, eq-eqb}
+use Rattle.std.proofs.Common.{◌≡◌, ◌⊎◌, inl, inr, ℕ, suc, ◌+◌, ◌<◌, ◌≤◌, Bool, true, false, List, [], ◌∷◌, ◌++◌, Option, Some, None, refl}
+use Rattle.std.proofs.Common.{sym, ap, ◌∙◌, subst, arith, append_assoc, nat_eq, cond, eqb, eq-eqb}
 use Rattle.std.specs.Prelude.{if◌then◌else◌, ◌&&◌}
 use Rattle.std.specs.List.{AllByRecursion}
 use Rattle.std.proofs.lemmas.Bool.{eqb-true}
@@ -37,10 +38,28 @@ gave_back q k kinds p key e = subst (λ x. Answers (Goes x k kinds) (Free p key)
 
 pub decided_by : (q k : ℕ) (kinds : List Ty) (p : CallNo) (key : KeyId) (site : Option BodySite) (args : ArgKinds) (v : Verdict) → p.0 ≡ q → key.0 ≡ k → kinds_of args ≡ kinds
     → Answers (Goes q k kinds) (Call p key site args v)
-decided_by q k kinds p key site args v e f g = subst (λ x. Answers (Goes x k kinds) (Call p key site args v)) e (subst (λ x. Answers (Goes p.0 x kinds) (Call p key site args v)) f (Decided kinds args p key site v g))
+decided_by q k kinds p key site args v e f g = subst (λ x. Answers (Goes x k kinds) (Call p key site args v)) e
+    (subst (λ x. Answers (Goes p.0 x kinds) (Call p key site args v)) f (Decided kinds args p key site v g))
 
 pub ended : (q k : ℕ) (p : CallNo) (key : KeyId) → p.0 ≡ q → key.0 ≡ k → Answers (Ends q k) (Free p key)
 ended q k p key e f = subst (λ x. Answers (Ends x k) (Free p key)) e (subst (λ x. Answers (Ends p.0 x) (Free p key)) f (Ended p key))
+
+-- ── acts of calls below a number ──
+
+pub all_both : (P : Act → Type 0) (l m : List Act) → AllByRecursion P l → AllByRecursion P m → AllByRecursion P (l ++ m)
+all_both P [] m h k = k
+all_both P (a ∷ l) m h k = (h.0, all_both P l m h.1 k)
+
+pub below_more : (n m : ℕ) (l : List Act) → n ≤ m → AllByRecursion (IsBelow n) l → AllByRecursion (IsBelow m) l
+below_more n m [] le h = tt
+below_more n m (Hold p j ty k ∷ l) le h = (let a = h.0 in omega (arith, le, a), below_more n m l le h.1)
+below_more n m (Free p j ∷ l) le h = (let a = h.0 in omega (arith, le, a), below_more n m l le h.1)
+below_more n m (Call p j site args v ∷ l) le h = (let a = h.0 in omega (arith, le, a), below_more n m l le h.1)
+below_more n m (Retype j site ∷ l) le h = (tt, below_more n m l le h.1)
+below_more n m (Busy j pins ∷ l) le h = (tt, below_more n m l le h.1)
+below_more n m (WornType j ∷ l) le h = (tt, below_more n m l le h.1)
+below_more n m (Define j site ∷ l) le h = (tt, below_more n m l le h.1)
+below_more n m (WornDef j ∷ l) le h = (tt, below_more n m l le h.1)
 
 -- ── one reading ──
 
@@ -230,7 +249,8 @@ decision_head fits q k kinds held (Call p j site args v ∷ l) has = go (nat_eq 
         ⊎ Head (Goes q k kinds) (Call p j site args v ∷ l) (λ a m. IsPast fits a × Leaves m (if b then called q site v held l else NoCall))
     go true e =
         let x = and_both _ _ e in let y = and_both _ _ x.0 in
-        inr (First (Call p j site args v) l refl (decided_by q k kinds p j site args v (eqb-true p.0 q y.0) (eqb-true j.0 k y.1) (kinds_same kinds (kinds_of args) x.1)) (tt, called_leaves q site v held l))
+        inr (First (Call p j site args v) l refl (decided_by q k kinds p j site args v (eqb-true p.0 q y.0) (eqb-true j.0 k y.1) (kinds_same kinds (kinds_of args) x.1))
+        (tt, called_leaves q site v held l))
     go false e = inl refl
 decision_head fits q k kinds held (Retype j site ∷ l) has = inl refl
 decision_head fits q k kinds held (Busy j pins ∷ l) has = inl refl
@@ -249,7 +269,8 @@ module _ (t : Table) (first second : List Act) where
     NoFirst : (o : Option (List Act)) → TwoFrees q pre None o
     NoSecond : (o : Option (List Act)) → TwoFrees q pre o None
     Alike : (used left : List Act) → AllByRecursion (IsBelow (suc q)) used → pre ≡ used ++ left → TwoFrees q pre (Some (left ++ first)) (Some (left ++ second))
-    PartAt : (k : ℕ) (a b : Act) (m n : List Act) (x y : Option (List Act)) → first ≡ a ∷ m → second ≡ b ∷ n → Answers (Ends q k) a → Answers (Ends q k) b → Behind m x → Behind n y → TwoFrees q pre x y
+    PartAt : (k : ℕ) (a b : Act) (m n : List Act) (x y : Option (List Act)) → first ≡ a ∷ m → second ≡ b ∷ n → Answers (Ends q k) a → Answers (Ends q k) b → Behind m x → Behind n y
+        → TwoFrees q pre x y
 
   frees_more : (q : ℕ) (c : Act) (pre : List Act) (x y : Option (List Act)) → IsBelow (suc q) c → TwoFrees q pre x y → TwoFrees q (c ∷ pre) x y
   frees_more q c pre _ _ low (NoFirst o) = NoFirst o
@@ -308,9 +329,11 @@ module _ (t : Table) (first second : List Act) where
     full_reads so_far pre _ _ (NoFirst o) = NoCallFirst (full_at o)
     full_reads so_far pre _ _ (NoSecond o) = NoCallSecond (full_at o)
     full_reads so_far pre _ _ (Alike used left b e) = BothFull used left b e
-    full_reads so_far pre _ _ (PartAt j a b m n x y e f g h u v) = PartIn (Ends q j) a b m n (full_at x) (full_at y) (inr (inr (j, refl))) e f g h (full_leaves m x u) (full_leaves n y v) tt tt (λ own. absurd own) (λ own. absurd own)
+    full_reads so_far pre _ _ (PartAt j a b m n x y e f g h u v) = PartIn (Ends q j) a b m n (full_at x) (full_at y) (inr (inr (j, refl))) e f g h (full_leaves m x u) (full_leaves n y v) tt tt
+        (λ own. absurd own) (λ own. absurd own)
 
-    refused_reads : (so_far pre : List Act) (site : Option BodySite) (w : Verdict) (x y : Option (List Act)) → TwoFrees q pre x y → TwoReads q k kinds so_far pre (refused_at site w x) (refused_at site w y)
+    refused_reads : (so_far pre : List Act) (site : Option BodySite) (w : Verdict) (x y : Option (List Act)) → TwoFrees q pre x y → TwoReads q k kinds so_far pre (refused_at site w x)
+        (refused_at site w y)
     unfolding Asks
     refused_reads so_far pre site w _ _ (NoFirst o) = NoCallFirst (refused_at site w o)
     refused_reads so_far pre site w _ _ (NoSecond o) = NoCallSecond (refused_at site w o)
@@ -318,7 +341,8 @@ module _ (t : Table) (first second : List Act) where
     refused_reads so_far pre site w _ _ (PartAt j a b m n x y e f g h u v) = PartIn (Ends q j) a b m n (refused_at site w x) (refused_at site w y) (inr (inr (j, refl))) e f g h
         (refused_leaves m site w x u) (refused_leaves n site w y v) tt tt (λ own. absurd own) (λ own. absurd own)
 
-    called_reads : (so_far pre : List Act) (site : Option BodySite) (w : Verdict) (held : List Stand) → TwoReads q k kinds so_far pre (called q site w held (pre ++ first)) (called q site w held (pre ++ second))
+    called_reads : (so_far pre : List Act) (site : Option BodySite) (w : Verdict) (held : List Stand) → TwoReads q k kinds so_far pre (called q site w held (pre ++ first))
+        (called q site w held (pre ++ second))
     called_reads so_far pre site (verdict.Enter way) held = BothCalled site (verdict.Enter way) held [] pre tt refl
     called_reads so_far pre site verdict.NoBody held = refused_reads so_far pre site verdict.NoBody _ _ (two_frees q held pre)
     called_reads so_far pre site verdict.NoType held = refused_reads so_far pre site verdict.NoType _ _ (two_frees q held pre)
@@ -372,7 +396,8 @@ module _ (t : Table) (first second : List Act) where
         known = ok ∙ ap (first_takes t kinds) (sym (append-nil so_far))
 
         go : (x y : Read) → (x ≡ NoCall) ⊎ Head (Goes q k kinds) first (λ a m. IsPast fits a × Leaves m x) → (y ≡ NoCall) ⊎ Head (Goes q k kinds) second (λ a m. IsPast fits a × Leaves m y)
-            → ((a : Act) (m : List Act) → first ≡ a ∷ m → IsOwnFree (Goes q k kinds) a → FullRead first x) → ((a : Act) (m : List Act) → second ≡ a ∷ m → IsOwnFree (Goes q k kinds) a → FullRead second y)
+            → ((a : Act) (m : List Act) → first ≡ a ∷ m → IsOwnFree (Goes q k kinds) a → FullRead first x) →
+            ((a : Act) (m : List Act) → second ≡ a ∷ m → IsOwnFree (Goes q k kinds) a → FullRead second y)
             → TwoReads q k kinds so_far [] x y
         go x y (inl e) r oa ob = subst (λ o. TwoReads q k kinds so_far [] o y) (sym e) (NoCallFirst y)
         go x y (inr f) (inl e) oa ob = subst (λ o. TwoReads q k kinds so_far [] x o) (sym e) (NoCallSecond x)
@@ -382,12 +407,14 @@ module _ (t : Table) (first second : List Act) where
         reads_more so_far pre (Hold p j ty n) _ _ (own_low p q e)
         (two_decisions fits (held ++ record { key = j.0; ty = ty; changes = n } ∷ []) (so_far ++ Hold p j ty n ∷ []) pre (has_last held (record { key = j.0; ty = ty; changes = n }) has)
         (so_far_more so_far (Hold p j ty n) so (eqb-true p.0 q e)) (ok ∙ still so_far (Hold p j ty n) so)))
-    two_decisions fits held so_far (Free p j ∷ pre) has so ok = reads_if so_far (Free p j ∷ pre) (fits && nat_eq p.0 q) _ _ (λ both. let e = (and_both _ _ both).1 in go (own_low p q e) (nat_eq j.0 k) refl
+    two_decisions fits held so_far (Free p j ∷ pre) has so ok = reads_if so_far (Free p j ∷ pre) (fits && nat_eq p.0 q) _ _
+        (λ both. let e = (and_both _ _ both).1 in go (own_low p q e) (nat_eq j.0 k) refl
         (two_frees q held (Free p j ∷ pre)) (λ apart. two_decisions fits (all_but j.0 held) (so_far ++ Free p j ∷ []) pre (has_but j.0 held apart has)
         (so_far_more so_far (Free p j) so (eqb-true p.0 q e, apart)) (ok ∙ still so_far (Free p j) so)))
       where
         go : p.0 < suc q → (b : Bool) → nat_eq j.0 k ≡ b → TwoFrees q (Free p j ∷ pre) (freed q held (Free p j ∷ (pre ++ first))) (freed q held (Free p j ∷ (pre ++ second)))
-            → (nat_eq j.0 k ≡ false → TwoReads q k kinds (so_far ++ Free p j ∷ []) pre (decision fits q k kinds (all_but j.0 held) (pre ++ first)) (decision fits q k kinds (all_but j.0 held) (pre ++ second)))
+            → (nat_eq j.0 k ≡ false → TwoReads q k kinds (so_far ++ Free p j ∷ []) pre (decision fits q k kinds (all_but j.0 held) (pre ++ first))
+            (decision fits q k kinds (all_but j.0 held) (pre ++ second)))
             → TwoReads q k kinds so_far (Free p j ∷ pre) (if b then full_at (freed q held (Free p j ∷ (pre ++ first))) else decision fits q k kinds (all_but j.0 held) (pre ++ first))
             (if b then full_at (freed q held (Free p j ∷ (pre ++ second))) else decision fits q k kinds (all_but j.0 held) (pre ++ second))
         go low true e r more = full_reads so_far (Free p j ∷ pre) _ _ r

@@ -39,7 +39,8 @@ same_cut (x ∷ xs) (y ∷ ys) us vs m e =
     (ap (λ z. z ∷ xs) h ∙ ap (λ l. y ∷ l) r.0, r.1)
 
 -- an act that was read behind so many is the one at that place
-head_is : (g n : ℕ) (rd A rest tail all : List (ℕ × Act)) (since P : List Act) (a : Act) → plain rd ++ since ≡ plain A ++ P → (rd ++ tagged g (since ++ a ∷ [])) ++ tail ≡ all → all ≡ (A ++ tagged n P) ++ rest
+head_is : (g n : ℕ) (rd A rest tail all : List (ℕ × Act)) (since P : List Act) (a : Act) → plain rd ++ since ≡ plain A ++ P → (rd ++ tagged g (since ++ a ∷ [])) ++ tail ≡ all → all ≡
+    (A ++ tagged n P) ++ rest
     → (rd ++ tagged g since ≡ A ++ tagged n P) × ((g, a) ∷ tail ≡ rest)
 head_is g n rd A rest tail all since P a m e f =
     let plains : plain (rd ++ tagged g since) ≡ plain (A ++ tagged n P) =
@@ -51,7 +52,8 @@ head_is g n rd A rest tail all since P a m e f =
     same_cut (rd ++ tagged g since) (A ++ tagged n P) ((g, a) ∷ tail) rest plains whole
 
 -- acts with the turn's number, behind others that have lower ones, are of the turn
-in_turn : (g n : ℕ) → g ≡ n → (rd A : List (ℕ × Act)) (since P : List Act) → TagsAre (λ i. i < n) A → rd ++ tagged g since ≡ A ++ tagged n P → (early : List Act) × (P ≡ early ++ since) × (rd ≡ A ++ tagged n early)
+in_turn : (g n : ℕ) → g ≡ n → (rd A : List (ℕ × Act)) (since P : List Act) → TagsAre (λ i. i < n) A → rd ++ tagged g since ≡ A ++ tagged n P → (early : List Act) × (P ≡ early ++ since) ×
+    (rd ≡ A ++ tagged n early)
 in_turn g n is [] [] since P low e = ([], sym (untagged n P) ∙ ap (λ l. plain l) (sym e) ∙ untagged g since, refl)
 in_turn g n is (d ∷ rd) [] since [] low e = absurd (cc e)
 in_turn g n is (d ∷ rd) [] since (p ∷ P) low e =
@@ -81,7 +83,8 @@ plain_cut n A R P X =
     ∙ sym (append_assoc (plain A) P (X ++ plain R))
 
 -- an act that is read behind these begins what is left
-begins_rest : (g n : ℕ) (rd A rest all : List (ℕ × Act)) (P : List Act) (a : Act) → plain rd ≡ plain A ++ P → IsPrefix (rd ++ (g, a) ∷ []) all → all ≡ (A ++ tagged n P) ++ rest → (tail : List (ℕ × Act)) × ((g, a) ∷ tail ≡ rest)
+begins_rest : (g n : ℕ) (rd A rest all : List (ℕ × Act)) (P : List Act) (a : Act) → plain rd ≡ plain A ++ P → IsPrefix (rd ++ (g, a) ∷ []) all → all ≡ (A ++ tagged n P) ++ rest →
+    (tail : List (ℕ × Act)) × ((g, a) ∷ tail ≡ rest)
 begins_rest g n rd A rest all P a m pre f = (pre.0, (head_is g n rd A rest pre.0 all [] P a (append-nil (plain rd) ∙ m) pre.1 f).1)
 
 -- the run stops with Full where so many expressions have begun, and this is left of the turn
@@ -106,10 +109,12 @@ module _ (t : Table) (names others : List Name) (differ : Differ names) (differ'
 
   -- none of the runs stops in this turn for want of a name that the other list has
   abbrev pub NoFirst : List Act → List Act → Type 0
-  NoFirst X Y = (P X1 Y1 : List Act) (k : ℕ) → (k ≡ n) ⊎ (k ≡ m) → X ≡ P ++ X1 → Y ≡ P ++ Y1 → AreShared names others P → FullIn r k X1 → (p : Name) (key : ℕ) → IsFull names p → place others p ≡ Some key → ⊥
+  NoFirst X Y = (P X1 Y1 : List Act) (k : ℕ) → (k ≡ n) ⊎ (k ≡ m) → X ≡ P ++ X1 → Y ≡ P ++ Y1 → AreShared names others P → FullIn r k X1 → (p : Name) (key : ℕ) → IsFull names p
+      → place others p ≡ Some key → ⊥
 
   abbrev pub NoSecond : List Act → List Act → Type 0
-  NoSecond X Y = (P X1 Y1 : List Act) (k : ℕ) → (k ≡ n) ⊎ (k ≡ m) → X ≡ P ++ X1 → Y ≡ P ++ Y1 → AreShared names others P → FullIn w k Y1 → (p : Name) (key : ℕ) → IsFull others p → place names p ≡ Some key → ⊥
+  NoSecond X Y = (P X1 Y1 : List Act) (k : ℕ) → (k ≡ n) ⊎ (k ≡ m) → X ≡ P ++ X1 → Y ≡ P ++ Y1 → AreShared names others P → FullIn w k Y1 → (p : Name) (key : ℕ) → IsFull others p
+      → place names p ≡ Some key → ⊥
 
   module _ (X0 Y0 : List Act) (next : OneNext X0 Y0) (no_first : NoFirst X0 Y0) (no_second : NoSecond X0 Y0) where
     module _ (P : List Act) (shared : AreShared names others P) where

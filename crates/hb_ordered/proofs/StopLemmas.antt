@@ -37,7 +37,8 @@ frees_both (Define key site ∷ l) m h k = absurd h
 frees_both (WornDef key ∷ l) m h k = absurd h
 frees_both (Call p key site args v ∷ l) m h k = absurd h
 
-pub ends_leave : (g : ℕ) (rd : List (ℕ × Act)) (l : List Act) (q : ℕ) (held : List Stand) (vars : Bindings) (self : Option ClassId) (a : Answer) → EndsFull g rd l a → EndsFull g rd l (leave q held vars self a)
+pub ends_leave : (g : ℕ) (rd : List (ℕ × Act)) (l : List Act) (q : ℕ) (held : List Stand) (vars : Bindings) (self : Option ClassId) (a : Answer) → EndsFull g rd l a → EndsFull g rd l
+    (leave q held vars self a)
 unfolding EndsFull FreesTo
 ends_leave g rd l q held vars self Lost h = tt
 ends_leave g rd l q held vars self (Done v s) h = absurd h

@@ -1,5 +1,6 @@
 -- Where a script stopped with Full, all names are known by the end of its turn, also among the turns of scripts alone.
-use Rattle.std.proofs.Common.{◌≡◌, ◌⊎◌, inl, inr, ℕ, ◌+◌, Bool, true, false, List, [], ◌∷◌, ◌++◌, length, length-append, Option, Some, None, map, refl, sym, ap, ◌∙◌, subst, arith, append_assoc, cond, eqb, eq-eqb}
+use Rattle.std.proofs.Common.{◌≡◌, ◌⊎◌, inl, inr, ℕ, ◌+◌, Bool, true, false, List, [], ◌∷◌, ◌++◌, length, length-append, Option, Some, None}
+use Rattle.std.proofs.Common.{refl, sym, ap, ◌∙◌, subst, arith, append_assoc, eqb, eq-eqb}
 use Rattle.std.specs.Prelude.{slice_get, if◌then◌else◌}
 use Rattle.std.proofs.lemmas.List.{append-nil}
 use Rattle.hb_tree.specs.Table.{Table}
@@ -15,8 +16,8 @@ use Rattle.hb_tables.proofs.FrameLemmas.{acts_append}
 use Rattle.hb_call.specs.Growth.{asked_after, asked_by, with_found, with_key}
 use Rattle.hb_call.specs.GrowthLaws.{asked_append}
 use Rattle.hb_run.specs.History.{HasCaller, IsInTurn, callers_from}
-use Rattle.hb_turns.specs.Playing.{Taken, entries_by, entries_of, turns_by}
 use Rattle.hb_turns.specs.Players.{AreAllByThen}
+use Rattle.hb_turns.specs.Playing.{Taken, entries_by, entries_of, turns_by}
 use Rattle.hb_turns.proofs.PlayingLemmas.{acts_by_itself}
 use Rattle.hb_ordered.specs.Turns.{AreAmong, among}
 use Rattle.hb_ordered.proofs.FirstLemmas.{first_of}
@@ -77,16 +78,18 @@ only_join cs (u ∷ us) vs = go (among u.caller cs) (only_join cs us vs)
     go true h = ap (λ l. u ∷ l) h
     go false h = h
 
-pub then_only : (t : Table) (steps : ℕ) (names : List Name) (log start : List Entry) (us : List Taken) → Every IsInTurn log → Every (λ before e. HasCaller t e) log → log ≡ start ++ entries_of us → AreOwn 0 start
+pub then_only : (t : Table) (steps : ℕ) (names : List Name) (log start : List Entry) (us : List Taken) → Every IsInTurn log → Every (λ before e. HasCaller t e) log → log ≡ start ++ entries_of us
+    → AreOwn 0 start
     → AreAllByThen t steps names start log us → AreAllByThen t steps names (entries_by 0 (acts 0 log)) log (only (callers_from 1 t.scripts) us)
-then_only t steps names log start us turn callers is own all before after u at none block run id runs reads stops = elim (either front (entries_of f.1) (entries_by 0 (acts 0 log)) (entries_of (only cs us)) both) [
-  | inl r ↦ known ∙ ap (λ l. asked_after names [] (doings l)) (shape ∙ ap (λ l. entries_by 0 l ++ entries_of (before ++ u ∷ []))
-      (sym (no_more (acts 0 log) (acts 0 front) (acts 0 (entries_of f.1)) (acts 0 r.0) (ap (acts 0) cut ∙ acts_append 0 front (entries_of f.1))
-      (ap (acts 0) r.1 ∙ acts_append 0 (entries_by 0 (acts 0 log)) r.0 ∙ ap (λ l. l ++ acts 0 r.0) (acts_by_itself 0 (acts 0 log))))))
-  | inr r ↦ still_known names (doings front) (doings (r.0 ++ entries_of (before ++ u ∷ []))) known
-      ∙ ap (asked_after names []) (sym (doings_join front (r.0 ++ entries_of (before ++ u ∷ []))))
-      ∙ ap (λ l. asked_after names [] (doings l)) (sym (append_assoc front r.0 (entries_of (before ++ u ∷ []))) ∙ ap (λ l. l ++ entries_of (before ++ u ∷ [])) (sym r.1))
-]
+then_only t steps names log start us turn callers is own all before after u at none block run id runs reads stops = elim
+    (either front (entries_of f.1) (entries_by 0 (acts 0 log)) (entries_of (only cs us)) both) [
+      | inl r ↦ known ∙ ap (λ l. asked_after names [] (doings l)) (shape ∙ ap (λ l. entries_by 0 l ++ entries_of (before ++ u ∷ []))
+          (sym (no_more (acts 0 log) (acts 0 front) (acts 0 (entries_of f.1)) (acts 0 r.0) (ap (acts 0) cut ∙ acts_append 0 front (entries_of f.1))
+          (ap (acts 0) r.1 ∙ acts_append 0 (entries_by 0 (acts 0 log)) r.0 ∙ ap (λ l. l ++ acts 0 r.0) (acts_by_itself 0 (acts 0 log))))))
+      | inr r ↦ still_known names (doings front) (doings (r.0 ++ entries_of (before ++ u ∷ []))) known
+          ∙ ap (asked_after names []) (sym (doings_join front (r.0 ++ entries_of (before ++ u ∷ []))))
+          ∙ ap (λ l. asked_after names [] (doings l)) (sym (append_assoc front r.0 (entries_of (before ++ u ∷ []))) ∙ ap (λ l. l ++ entries_of (before ++ u ∷ [])) (sym r.1))
+    ]
   where
     cs : List ℕ
     cs = callers_from 1 t.scripts
@@ -115,7 +118,8 @@ then_only t steps names log start us turn callers is own all before after u at n
     known = all f.0 f.1 u f.2 later block run id runs reads stops
 
     cut : log ≡ front ++ entries_of f.1
-    cut = is ∙ ap (λ l. start ++ entries_of l) (f.2 ∙ sym (append_assoc f.0 (u ∷ []) f.1)) ∙ ap (λ l. start ++ l) (entries_join (f.0 ++ u ∷ []) f.1) ∙ sym (append_assoc start (entries_of (f.0 ++ u ∷ [])) (entries_of f.1))
+    cut = is ∙ ap (λ l. start ++ entries_of l) (f.2 ∙ sym (append_assoc f.0 (u ∷ []) f.1)) ∙ ap (λ l. start ++ l) (entries_join (f.0 ++ u ∷ []) f.1) ∙ sym
+        (append_assoc start (entries_of (f.0 ++ u ∷ [])) (entries_of f.1))
 
     kept : only cs (f.0 ++ u ∷ []) ≡ before ++ u ∷ []
     kept = only_join cs f.0 (u ∷ []) ∙ ap (λ l. l ++ only cs (u ∷ [])) f.3 ∙ ap (λ (b : Bool). before ++ (if b then u ∷ [] else [])) real

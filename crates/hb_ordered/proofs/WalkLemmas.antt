@@ -1,5 +1,6 @@
 -- Two histories of one order have the same turns, where the next acts are the same wherever both go on.
-use Rattle.std.proofs.Common.{◌≡◌, ◌≢◌, ◌⊎◌, inl, inr, ℕ, zero, suc, Some, length, ◌+◌, ◌-◌, ◌<◌, ◌≤◌, Bool, true, false, List, [], ◌∷◌, ◌++◌, map, refl, sym, ap, ◌∙◌, subst, arith, append_assoc, cond, eqb, eq-eqb}
+use Rattle.std.proofs.Common.{◌≡◌, ◌≢◌, ◌⊎◌, inl, inr, ℕ, zero, suc, Some, length, ◌+◌, ◌-◌, ◌<◌, ◌≤◌, Bool, true, false, List, [], ◌∷◌, ◌++◌}
+use Rattle.std.proofs.Common.{map, refl, sym, ap, ◌∙◌, subst, arith, append_assoc, cond, eqb, eq-eqb}
 use Rattle.std.specs.Prelude.{if◌then◌else◌}
 use Rattle.std.proofs.lemmas.Bool.{eqb-true}
 use Rattle.std.proofs.lemmas.Bool.Decides.{eqb_tells}
@@ -37,7 +38,8 @@ use Rattle.hb_ordered.proofs.NamesLemmas.{acts_shared, asked_begins, doings, doi
 use Rattle.hb_ordered.proofs.AlongLemmas.{runs_part}
 use Rattle.hb_ordered.proofs.NextLemmas.{next_turn}
 use Rattle.hb_ordered.proofs.SameTurnLemmas.{FullIn, TagsAre, one_turn, plain}
-use Rattle.hb_ordered.proofs.TakenLemmas.{Alike, acts_entries, acts_of, alike_entries, alike_more, alike_plain, alike_turns, before_turn, by_join, entries_join, high_tags, no_acts, number_low, one_of, turns_of}
+use Rattle.hb_ordered.proofs.TakenLemmas.{Alike, acts_entries, acts_of, alike_entries, alike_more, alike_plain, alike_turns, before_turn, by_join, entries_join}
+use Rattle.hb_ordered.proofs.TakenLemmas.{high_tags, no_acts, number_low, one_of, turns_of}
 
 -- The history is a beginning without scripts and then these turns, which are scripts', and each script's run reads its acts in them.
 pub record Turned (t : Table) (steps : ℕ) (names : List Name) (first log : List Entry) (us : List Taken) : Type 0 where
@@ -53,7 +55,8 @@ pub record Turned (t : Table) (steps : ℕ) (names : List Name) (first log : Lis
 
 -- ── callers ──
 
-pub tagged_at : (t : Table) (names : List Name) (steps : ℕ) (log : List Entry) (us : List Taken) (cs : List ℕ) (c : ℕ) → AreTagged t names steps log us cs → among c cs ≡ true → IsTagged t names steps log us c
+pub tagged_at : (t : Table) (names : List Name) (steps : ℕ) (log : List Entry) (us : List Taken) (cs : List ℕ) (c : ℕ) → AreTagged t names steps log us cs → among c cs ≡ true
+    → IsTagged t names steps log us c
 tagged_at t names steps log us [] c h e = absurd (cc e)
 tagged_at t names steps log us (d ∷ ds) c h e = go (eqb c d) refl e (tagged_at t names steps log us ds c h.1)
   where
@@ -85,7 +88,8 @@ pub among_part : (cs : List ℕ) (us vs : List Taken) → AreAmong cs (us ++ vs)
 among_part cs [] vs h = h
 among_part cs (u ∷ us) vs h = among_part cs us vs h.1
 
-module _ (t : Table) (steps : ℕ) (names : List Name) (first log : List Entry) (us0 : List Taken) (a : Turned t steps names first log us0) (c : ℕ) (real : among c (callers_from 1 t.scripts) ≡ true) where
+module _ (t : Table) (steps : ℕ) (names : List Name) (first log : List Entry) (us0 : List Taken) (a : Turned t steps names first log us0) (c : ℕ)
+    (real : among c (callers_from 1 t.scripts) ≡ true) where
   pub tags : IsTagged t names steps log us0 c
   tags = tagged_at t names steps log us0 (callers_from 1 t.scripts) c a.tagged real
 
@@ -124,8 +128,10 @@ some_turn : (n : ℕ) → 1 ≤ turns_for n
 some_turn zero = omega arith
 some_turn (suc n) = omega arith
 
-module _ (t : Table) (steps : ℕ) (names others : List Name) (first log log' : List Entry) (us0 ws0 us us' vs ws : List Taken) (a : Turned t steps names first log us0) (b : Turned t steps others first log' ws0)
-    (eu : us0 ≡ us ++ vs) (ew : ws0 ≡ us' ++ ws) (turns : (c : ℕ) → turns_by c us ≡ turns_by c us') (same : entries_of us ≡ entries_of us') (shared : AreShared names others (doings (first ++ entries_of us))) where
+module _ (t : Table) (steps : ℕ) (names others : List Name) (first log log' : List Entry) (us0 ws0 us us' vs ws : List Taken) (a : Turned t steps names first log us0)
+    (b : Turned t steps others first log' ws0)
+    (eu : us0 ≡ us ++ vs) (ew : ws0 ≡ us' ++ ws) (turns : (c : ℕ) → turns_by c us ≡ turns_by c us') (same : entries_of us ≡ entries_of us')
+    (shared : AreShared names others (doings (first ++ entries_of us))) where
   known_acts : (c : ℕ) → AreShared names others (plain (acts_by c us))
   known_acts c = subst (AreShared names others) (acts_entries c us) (acts_shared names others c (entries_of us)
       (shared_parts names others (doings first) (doings (entries_of us)) (subst (AreShared names others) (doings_join first (entries_of us)) shared)).1)
@@ -144,7 +150,8 @@ module _ (t : Table) (steps : ℕ) (names others : List Name) (first log log' : 
       (ap (λ d. script_run t names (call_in t names 4096) x.block.0 steps (acts d log)) l.mine ∙ x.reads) stops in
       let front : first ++ entries_of us ≡ E ++ entries_of l.after = ap (λ k. first ++ entries_of k) (l.is ∙ sym (append_assoc l.before (l.turn ∷ []) l.after))
       ∙ ap (λ k. first ++ k) (entries_join (l.before ++ l.turn ∷ []) l.after) ∙ sym (append_assoc first (entries_of (l.before ++ l.turn ∷ [])) (entries_of l.after)) in
-      let behind : log' ≡ E ++ (entries_of l.after ++ entries_of ws) = b.is ∙ ap (λ k. first ++ entries_of k) ew ∙ ap (λ k. first ++ k) (entries_join us' ws) ∙ sym (append_assoc first (entries_of us') (entries_of ws))
+      let behind : log' ≡ E ++ (entries_of l.after ++ entries_of ws) = b.is ∙ ap (λ k. first ++ entries_of k) ew ∙ ap (λ k. first ++ k) (entries_join us' ws) ∙ sym
+      (append_assoc first (entries_of us') (entries_of ws))
       ∙ ap (λ k. (first ++ k) ++ entries_of ws) (sym same) ∙ ap (λ k. k ++ entries_of ws) front ∙ append_assoc E (entries_of l.after) (entries_of ws) in
       let common : AreShared names others (doings E) = (shared_parts names others (doings E) (doings (entries_of l.after))
       (subst (AreShared names others) (ap doings front ∙ doings_join E (entries_of l.after)) shared)).0 in
@@ -168,10 +175,12 @@ module _ (t : Table) (steps : ℕ) (names others : List Name) (first log log' : 
       blocks = same_Some x.block y.block (sym x.runs ∙ y.runs)
 
       mine : acts c log ≡ (plain (acts_by c us))
-      mine = journal_is t steps names first log us0 a c real ∙ ap (λ l. plain (acts_by c l)) eu ∙ ap plain (acts_of c us vs) ∙ ap (λ l. plain (acts_by c us ++ l)) (no_acts c vs none) ∙ ap plain (append-nil (acts_by c us))
+      mine = journal_is t steps names first log us0 a c real ∙ ap (λ l. plain (acts_by c l)) eu ∙ ap plain (acts_of c us vs) ∙ ap (λ l. plain (acts_by c us ++ l)) (no_acts c vs none) ∙ ap plain
+          (append-nil (acts_by c us))
 
       others_are : acts c log' ≡ (plain (acts_by c us)) ++ (plain (acts_by c ws))
-      others_are = journal_is t steps others first log' ws0 b c real ∙ ap (λ l. plain (acts_by c l)) ew ∙ ap plain (acts_of c us' ws) ∙ map-append (λ (e : ℕ × Act). e.1) (acts_by c us') (acts_by c ws)
+      others_are = journal_is t steps others first log' ws0 b c real ∙ ap (λ l. plain (acts_by c l)) ew ∙ ap plain (acts_of c us' ws) ∙ map-append (λ (e : ℕ × Act). e.1) (acts_by c us')
+          (acts_by c ws)
           ∙ ap (λ l. l ++ (plain (acts_by c ws))) (sym acts_are)
 
       counted : x.run ≡ y.run → turns_by c ws ≡ 0
@@ -205,7 +214,8 @@ pub entries_cut : (c : ℕ) (Z rest : List Entry) (early since later : List Act)
     → Z ++ (entries_by c ((early ++ since) ++ x ∷ later) ++ rest) ≡ ((Z ++ entries_by c early) ++ entries_by c since) ++ entry c x ∷ (entries_by c later ++ rest)
 entries_cut c Z rest early since later x =
     ap (λ l. Z ++ (l ++ rest)) (by_join c (early ++ since) (x ∷ later) ∙ ap (λ l. l ++ entries_by c (x ∷ later)) (by_join c early since))
-    ∙ ap (λ l. Z ++ l) (append_assoc (entries_by c early ++ entries_by c since) (entries_by c (x ∷ later)) rest ∙ append_assoc (entries_by c early) (entries_by c since) (entry c x ∷ (entries_by c later ++ rest)))
+    ∙ ap (λ l. Z ++ l) (append_assoc (entries_by c early ++ entries_by c since) (entries_by c (x ∷ later)) rest ∙ append_assoc (entries_by c early) (entries_by c since)
+    (entry c x ∷ (entries_by c later ++ rest)))
     ∙ sym (append_assoc Z (entries_by c early) (entries_by c since ++ entry c x ∷ (entries_by c later ++ rest)))
     ∙ sym (append_assoc (Z ++ entries_by c early) (entries_by c since) (entry c x ∷ (entries_by c later ++ rest)))
 
@@ -230,7 +240,8 @@ turn_doings : (first : List Entry) (us vs : List Taken) (v : Taken) (P X : List 
     → doings (first ++ entries_of (us ++ v ∷ vs)) ≡ (doings (first ++ entries_of us) ++ P) ++ (X ++ doings (entries_of vs))
 turn_doings first us vs v P X e =
     ap (λ k. doings (first ++ k)) (entries_join us (v ∷ vs)) ∙ ap doings (sym (append_assoc first (entries_of us) (entries_of (v ∷ vs)))) ∙ doings_join (first ++ entries_of us) (entries_of (v ∷ vs))
-    ∙ ap (λ k. doings (first ++ entries_of us) ++ k) (doings_join (entries_by v.caller v.acts) (entries_of vs) ∙ ap (λ k. k ++ doings (entries_of vs)) (doings_by v.caller v.acts ∙ e) ∙ append_assoc P X (doings (entries_of vs)))
+    ∙ ap (λ k. doings (first ++ entries_of us) ++ k) (doings_join (entries_by v.caller v.acts) (entries_of vs) ∙ ap (λ k. k ++ doings (entries_of vs)) (doings_by v.caller v.acts ∙ e)
+    ∙ append_assoc P X (doings (entries_of vs)))
     ∙ sym (append_assoc (doings (first ++ entries_of us)) P (X ++ doings (entries_of vs)))
 
 turns_low : (k m : ℕ) → k ≤ m + 1 → turns_for k ≤ m + 1
@@ -240,10 +251,12 @@ turns_low (suc k) m low = low
 -- a script that stops in its turn does not want for a name that the other list has
 lacks_never : (t : Table) (steps : ℕ) (names others : List Name) (first log log' : List Entry) (us0 ws0 us us' vs ws : List Taken) (v w : Taken) (c : ℕ) → Turned t steps names first log us0
     → Turned t steps others first log' ws0 → us0 ≡ us ++ v ∷ vs → ws0 ≡ us' ++ w ∷ ws → v.caller ≡ c → w.caller ≡ c → turns_by c us ≡ turns_by c us' → entries_of us ≡ entries_of us'
-    → AreShared names others (doings (first ++ entries_of us)) → (x : IsTagged t names steps log us0 c) (P X1 Y1 : List Act) (k : ℕ) → (k ≡ v.begun) ⊎ (k ≡ w.begun) → v.acts ≡ P ++ X1 → w.acts ≡ P ++ Y1
+    → AreShared names others (doings (first ++ entries_of us)) → (x : IsTagged t names steps log us0 c) (P X1 Y1 : List Act) (k : ℕ) → (k ≡ v.begun) ⊎ (k ≡ w.begun) → v.acts ≡ P ++ X1
+    → w.acts ≡ P ++ Y1
     → AreShared names others P → FullIn x.run k X1 → (p : Name) (key : ℕ) → IsFull names p → place others p ≡ Some key → ⊥
 lacks_never t steps names others first log log' us0 ws0 us us' vs ws v w c a b eu ew mv mw count same shared x P X1 Y1 k tag ev ew' sharedP full p key is has =
-    prefix_never names others (asked_begins names others (doings (first ++ entries_of us) ++ P) X1 (Y1 ++ doings (entries_of ws)) (shared_both names others (doings (first ++ entries_of us)) P shared sharedP) full.2
+    prefix_never names others (asked_begins names others (doings (first ++ entries_of us) ++ P) X1 (Y1 ++ doings (entries_of ws))
+    (shared_both names others (doings (first ++ entries_of us)) P shared sharedP) full.2
     (all ∙ ap (asked_after names []) (turn_doings first us [] v P X1 ev ∙ ap (λ l. (doings (first ++ entries_of us) ++ P) ++ l) (append-nil X1)))
     (b.asked ∙ ap (λ l. asked_after others [] (doings l)) (b.is ∙ ap (λ l. first ++ entries_of l) ew) ∙ ap (asked_after others []) (turn_doings first us' ws w P Y1 ew'
     ∙ ap (λ l. (doings (first ++ l) ++ P) ++ (Y1 ++ doings (entries_of ws))) (sym same)))) b.few p key is has
@@ -269,7 +282,8 @@ lacks_never t steps names others first log log' us0 ws0 us us' vs ws v w c a b e
 module _ (t : Table) (steps : ℕ) (names others : List Name) (first log log' : List Entry) (us0 ws0 : List Taken) (a : Turned t steps names first log us0) (b : Turned t steps others first log' ws0)
     (alike : GoOnAlike t names others log log') where
   -- the next turns of one caller have the same acts
-  same_turn : (us us' vs ws : List Taken) (v w : Taken) (c : ℕ) → among c (callers_from 1 t.scripts) ≡ true → us0 ≡ us ++ v ∷ vs → ws0 ≡ us' ++ w ∷ ws → Alike us us' → AreShared names others (doings (first ++ entries_of us)) → v.caller ≡ c → w.caller ≡ c
+  same_turn : (us us' vs ws : List Taken) (v w : Taken) (c : ℕ) → among c (callers_from 1 t.scripts) ≡ true → us0 ≡ us ++ v ∷ vs → ws0 ≡ us' ++ w ∷ ws → Alike us us' → AreShared names others
+      (doings (first ++ entries_of us)) → v.caller ≡ c → w.caller ≡ c
       → (v.acts ≡ w.acts) × AreShared names others v.acts
   same_turn us us' vs ws v w c real eu ew so_far shared mv mw =
       one_turn t names others a.differ b.differ x.block.0 steps x.run y.run
@@ -326,7 +340,8 @@ module _ (t : Table) (steps : ℕ) (names others : List Name) (first log log' : 
           tags_weaker (turns_by c us' + 1) v.begun (omega (arith, number, count)) (acts_by c ws)
           (high_tags (us' ++ w ∷ ws) numbers' c (turns_by c us' + 1) (omega arith) (us' ++ w ∷ []) ws (sym (append_assoc us' (w ∷ []) ws)) (omega (arith, more)))
 
-      no_second : (P X1 Y1 : List Act) (k : ℕ) → (k ≡ v.begun) ⊎ (k ≡ w.begun) → v.acts ≡ P ++ X1 → w.acts ≡ P ++ Y1 → AreShared names others P → FullIn y.run k Y1 → (p : Name) (key : ℕ) → IsFull others p
+      no_second : (P X1 Y1 : List Act) (k : ℕ) → (k ≡ v.begun) ⊎ (k ≡ w.begun) → v.acts ≡ P ++ X1 → w.acts ≡ P ++ Y1 → AreShared names others P → FullIn y.run k Y1 → (p : Name) (key : ℕ)
+          → IsFull others p
           → place names p ≡ Some key → ⊥
       no_second P X1 Y1 k tag ev ew' sharedP full p key is has =
           lacks_never t steps others names first log' log ws0 us0 us' us ws vs w v c b a ew eu mw mv (sym count) (sym (alike_entries us us' so_far))
@@ -334,7 +349,8 @@ module _ (t : Table) (steps : ℕ) (names others : List Name) (first log log' : 
           (elim tag [ inl e ↦ inr e | inr e ↦ inl e ]) ew' ev (all_back names others P sharedP) full p key is has
 
       next : (P X1 Y1 early : List Act) (done first' second : List Act) (p : Parting t names others done first' second) → v.acts ≡ P ++ p.a ∷ X1 → w.acts ≡ P ++ p.b ∷ Y1 → P ≡ early ++ p.since
-          → plain p.state.read ≡ plain (acts_by c us) ++ early → AreShared names others P → NotFull names others p.question p.a p.b → NotFull others names p.other p.b p.a → (p.a ≡ p.b) × IsShared names others p.a
+          → plain p.state.read ≡ plain (acts_by c us) ++ early → AreShared names others P → NotFull names others p.question p.a p.b → NotFull others names p.other p.b p.a → (p.a ≡ p.b)
+          × IsShared names others p.a
       next P X1 Y1 early done first' second p ev ew' eP read sharedP stays stays' =
           let Z : List Entry = first ++ entries_of us in
           let here : acts c (Z ++ entries_by c early) ≡ plain p.state.read =
@@ -344,11 +360,14 @@ module _ (t : Table) (steps : ℕ) (names others : List Name) (first log log' : 
           (at_turn first log us0 us vs v c early p.since X1 P p.a a.is eu mv ev eP)
           (at_turn first log' ws0 us' ws w c early p.since Y1 P p.b b.is ew mw ew' eP
           ∙ ap (λ l. (((first ++ l) ++ entries_by c early) ++ entries_by c p.since) ++ entry c p.b ∷ (entries_by c Y1 ++ entries_of ws)) (sym (alike_entries us us' so_far)))
-          (subst (AreShared names others) (sym (doings_join (Z ++ entries_by c early) (entries_by c p.since) ∙ ap (λ l. l ++ doings (entries_by c p.since)) (doings_join Z (entries_by c early) ∙ ap (λ l. doings Z ++ l) (doings_by c early))
-          ∙ ap (λ l. (doings Z ++ early) ++ l) (doings_by c p.since) ∙ append_assoc (doings Z) early p.since ∙ ap (λ l. doings Z ++ l) (sym eP))) (shared_both names others (doings Z) P shared sharedP)) stays stays'
+          (subst (AreShared names others) (sym (doings_join (Z ++ entries_by c early) (entries_by c p.since) ∙ ap (λ l. l ++ doings (entries_by c p.since))
+          (doings_join Z (entries_by c early) ∙ ap (λ l. doings Z ++ l) (doings_by c early))
+          ∙ ap (λ l. (doings Z ++ early) ++ l) (doings_by c p.since) ∙ append_assoc (doings Z) early p.since ∙ ap (λ l. doings Z ++ l) (sym eP)))
+          (shared_both names others (doings Z) P shared sharedP)) stays stays'
 
   -- what is left behind the next turn
-  left_behind : (rest : List ℕ) (v : Taken) (vs : List Taken) (c : ℕ) → v.caller ≡ c → map (λ (u : Taken). u.caller) (v ∷ vs) ≡ c ∷ turn_order rest (less c (λ d. turns_by d (v ∷ vs))) (callers_from 1 t.scripts)
+  left_behind : (rest : List ℕ) (v : Taken) (vs : List Taken) (c : ℕ) → v.caller ≡ c → map (λ (u : Taken). u.caller) (v ∷ vs) ≡ c ∷ turn_order rest (less c (λ d. turns_by d (v ∷ vs)))
+      (callers_from 1 t.scripts)
       → map (λ (u : Taken). u.caller) vs ≡ turn_order rest (λ d. turns_by d vs) (callers_from 1 t.scripts)
   left_behind rest v vs c mine e =
       let tail : map (λ (u : Taken). u.caller) vs ≡ turn_order rest (less c (λ d. turns_by d (v ∷ vs))) (callers_from 1 t.scripts) = cc e in
@@ -370,7 +389,8 @@ module _ (t : Table) (steps : ℕ) (names others : List Name) (first log log' : 
   nexts us us' vs ws rest eu ew so_far shared = next_turn rest (λ d. turns_by d vs) (λ d. turns_by d ws) t.scripts (λ d. (
     none_left t steps names others first log log' us0 ws0 us us' vs ws a b eu ew (λ c. alike_turns c us us' so_far) (alike_entries us us' so_far) shared (λ c. alike_plain c us us' so_far) d,
     none_left t steps others names first log' log ws0 us0 us' us ws vs b a ew eu (λ c. sym (alike_turns c us us' so_far)) (sym (alike_entries us us' so_far))
-        (subst (λ l. AreShared others names (doings (first ++ l))) (alike_entries us us' so_far) (all_back names others (doings (first ++ entries_of us)) shared)) (λ c. sym (alike_plain c us us' so_far)) d,
+        (subst (λ l. AreShared others names (doings (first ++ l))) (alike_entries us us' so_far) (all_back names others (doings (first ++ entries_of us)) shared))
+        (λ c. sym (alike_plain c us us' so_far)) d,
   ))
 
   not_empty : (rest : List ℕ) (v : Taken) (vs : List Taken) → IsRest rest (v ∷ vs) → turn_order rest (λ d. turns_by d (v ∷ vs)) (callers_from 1 t.scripts) ≡ [] → ⊥
@@ -401,11 +421,14 @@ module _ (t : Table) (steps : ℕ) (names others : List Name) (first log log' : 
         (among_part (callers_from 1 t.scripts) us (v ∷ vs) (subst (AreAmong (callers_from 1 t.scripts)) eu a.mine)).0 in
         let same = same_turn us us' vs ws v w n.0 real eu ew so_far shared mv mw in
         let onward : AreShared names others (doings (first ++ entries_of (us ++ v ∷ []))) = subst (AreShared names others)
-        (sym (turn_doings first us [] v v.acts [] (sym (append-nil v.acts)) ∙ append-nil (doings (first ++ entries_of us) ++ v.acts))) (shared_both names others (doings (first ++ entries_of us)) v.acts shared same.1) in
-        let more = walk (us ++ v ∷ []) (us' ++ w ∷ []) vs ws n.1 (eu ∙ sym (append_assoc us (v ∷ []) vs)) (ew ∙ sym (append_assoc us' (w ∷ []) ws)) (alike_more us us' v w so_far (mv ∙ sym mw) same.0) onward
+        (sym (turn_doings first us [] v v.acts [] (sym (append-nil v.acts)) ∙ append-nil (doings (first ++ entries_of us) ++ v.acts)))
+        (shared_both names others (doings (first ++ entries_of us)) v.acts shared same.1) in
+        let more = walk (us ++ v ∷ []) (us' ++ w ∷ []) vs ws n.1 (eu ∙ sym (append_assoc us (v ∷ []) vs)) (ew ∙ sym (append_assoc us' (w ∷ []) ws))
+        (alike_more us us' v w so_far (mv ∙ sym mw) same.0) onward
         (left_behind n.1 v vs n.0 mv one) (left_behind n.1 w ws n.0 mw two) in (
           (mv ∙ sym mw, same.0, more.0),
-          subst (AreShared names others) (sym (doings_join (entries_by v.caller v.acts) (entries_of vs) ∙ ap (λ l. l ++ doings (entries_of vs)) (doings_by v.caller v.acts))) (shared_both names others v.acts (doings (entries_of vs)) same.1 more.1),
+          subst (AreShared names others) (sym (doings_join (entries_by v.caller v.acts) (entries_of vs) ∙ ap (λ l. l ++ doings (entries_of vs)) (doings_by v.caller v.acts)))
+              (shared_both names others v.acts (doings (entries_of vs)) same.1 more.1),
         ))
   ]
 

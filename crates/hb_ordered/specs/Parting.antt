@@ -67,7 +67,8 @@ IsBelow n (WornType key) = Unit {0}
 IsBelow n (Define key site) = Unit {0}
 IsBelow n (WornDef key) = Unit {0}
 
--- Two lists of acts go on with these behind common ones. Both runs, each for its list of names, came to the same state, in which each call that was read has a lower number than the next, asked the same there, and read answers to it that may differ.
+-- Two lists of acts go on with these behind common ones. Both runs, each for its list of names, came to the same state, in which each call that was read has a lower number than the next.
+-- They asked the same there, and read answers to it that may differ.
 pub record Parting (t : Table) (names others : List Name) (done first second : List Act) : Type 0 where
   pub state : St
   pub since : List Act

@@ -27,14 +27,16 @@ pub fn a_question_has_one_answer()
         → IsAnswer t limit names c log u a → IsAnswer t limit others c log v b → FitsArguments t log u a → FitsArguments t log v b → (a ≡ b) × IsShared names others a }
 {}
 
-/// Two runs of one block, whose acts begin alike, for two lists of names that share those of these acts: neither goes on, or both read answers to one question, asked in the same state, or one stops since its list is full and lacks a name that the other one has.
+/// Two runs of one block, whose acts begin alike, for two lists of names that share those of these acts: neither goes on, or both read answers to one question, asked in the same state,
+/// or one stops since its list is full and lacks a name that the other one has.
 pub fn runs_part_at_a_question()
     ensures { (done first second : List Act) (t : Table) (names others : List Name) (block steps : ℕ) (r w : Run) → Differ names → Differ others → AreShared names others done
         → script_run t names (call_in t names 4096) block steps (done ++ first) ≡ Some r → script_run t others (call_in t others 4096) block steps (done ++ second) ≡ Some w
         → GoOn t names others done first second r w }
 {}
 
-/// Two runs of one caller part behind the same entries, the last of which are its acts since the question's call began. Where both go on by the rules, and neither gives up for a name that the other list has, their next acts are the same.
+/// Two runs of one caller part behind the same entries, the last of which are its acts since the question's call began.
+/// Where both go on by the rules, and neither gives up for a name that the other list has, their next acts are the same.
 pub fn next_acts_are_one()
     ensures { (t : Table) (limit : ℕ) (names others : List Name) (c : ℕ) (before : List Entry) (done first second : List Act) (x : Parting t names others done first second)
         → Differ names → Differ others → AreShared names others (map (λ e. e.act) (before ++ entries_by c x.since))
