@@ -1,5 +1,5 @@
 -- What is due for a text that is refused is one.
-use Rattle.std.proofs.Common.{◌≡◌, inl, inr, ℕ, List, Option, Some, None, Bool, true, false, refl, sym, ap, ◌∙◌, arith, length, subst}
+use Rattle.std.proofs.Common.{◌≡◌, inl, inr, ℕ, List, Option, Some, Bool, true, false, sym, ap, ◌∙◌, arith, length, subst}
 use Rattle.std.specs.Prelude.{if◌then◌else◌}
 use Rattle.std.specs.List.{list_all}
 use Rattle.hb_lex.specs.declared.faults.LexFail.{LexFail}

@@ -1,5 +1,5 @@
--- What is due for a program with an order is one.
-use Rattle.std.proofs.Common.{◌≡◌, ℕ, List, Option, Some, sym, ap, ◌∙◌, subst}
+-- What is due for a program whose turns are fixed is one.
+use Rattle.std.proofs.Common.{◌≡◌, ℕ, List, sym, ap, ◌∙◌}
 use Rattle.hb_tree.specs.Table.{Table}
 use Rattle.hb_names.specs.Names.{Name}
 use Rattle.hb_tables.specs.declared.entry.Entry.{Entry}
@@ -7,19 +7,17 @@ use Rattle.hb_eval.specs.Told.{Told}
 use Rattle.hb_turns.specs.Players.{IsOrdered}
 use Rattle.hb_jobs.specs.Jobs.{Options}
 use Rattle.hbird.specs.Outcomes.{Outcome}
-use Rattle.hbird.specs.Reports.{IsInOrder, IsReported, reported}
+use Rattle.hbird.specs.Reports.{AreFixed, IsReported, order_or_none, reported}
 
 -- an order has one history
 abbrev pub HaveOneHistory : Type 0
 HaveOneHistory = (t : Table) (limit steps : ℕ) (order : List ℕ) (names others : List Name) (log log' : List Entry) (runs runs' : List Told)
     → IsOrdered t limit steps order names log runs → IsOrdered t limit steps order others log' runs' → (names ≡ others) × (log ≡ log') × (runs ≡ runs')
 
-pub one-report : HaveOneHistory → (t : Table) (options : Options) (order : List ℕ) (len : ℕ) (a b : Outcome) → options.order ≡ Some order
+pub one-report : HaveOneHistory → (t : Table) (options : Options) (len : ℕ) (a b : Outcome) → AreFixed t options.order
     → IsReported t options len a → IsReported t options len b → a ≡ b
-one-report one t options order len a b is x y =
-    let same = one t options.changes options.steps order x.names y.names x.log y.log x.runs y.runs
-    (subst (λ (o : Option (List ℕ)). IsInOrder t options o x.names x.log x.runs) is x.in_order)
-    (subst (λ (o : Option (List ℕ)). IsInOrder t options o y.names y.log y.runs) is y.in_order) in
+one-report one t options len a b fixed x y =
+    let same = one t options.changes options.steps (order_or_none options) x.names y.names x.log y.log x.runs y.runs (x.in_order fixed) (y.in_order fixed) in
     x.same
     ∙ ap (λ (names : List Name). reported t options names x.log x.runs len) same.0
     ∙ ap (λ (log : List Entry). reported t options y.names log x.runs len) same.1

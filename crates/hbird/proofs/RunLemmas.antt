@@ -1,5 +1,5 @@
 -- What reading a text to its end says of what is due.
-use Rattle.std.proofs.Common.{◌≡◌, ◌≢◌, ◌∙◌, ◌≤◌, ◌<◌, ◌+◌, ◌⊎◌, inl, inr, ℕ, List, [], ◌∷◌, ◌++◌, Some, None, Ok, Err, refl, sym, ap, subst, length, length-append, arith, append-nil, rules, Bool, true, false}
+use Rattle.std.proofs.Common.{◌≡◌, ◌≢◌, ◌∙◌, ◌≤◌, ◌<◌, ◌+◌, ◌⊎◌, inl, inr, ℕ, List, ◌++◌, Some, None, Ok, Err, refl, sym, ap, subst, length, length-append, arith, append-nil, rules, Bool, true, false}
 use Rattle.std.specs.Prelude.{IfOk, IsNone, if◌then◌else◌}
 use Rattle.std.specs.List.{AllByRecursion, list_all}
 use Rattle.std.specs.Io.KnownBytes.{Keeps}
@@ -25,7 +25,7 @@ use Rattle.hb_run.specs.Headline.{KeepsPromise, StopsInBodies}
 use Rattle.hb_jobs.specs.Jobs.{Options, Run, Wanted}
 use Rattle.hb_turns.specs.Players.{IsOrdered}
 use Rattle.hb_report.specs.Report.{report_of}
-use Rattle.hbird.specs.Reports.{IsInOrder, IsReported, ending_of, order_or, order_or_none, reported, traced}
+use Rattle.hbird.specs.Reports.{IsReported, ending_of, order_or_none, reported, traced}
 use Rattle.hbird.specs.declared.due.Due.{Due}
 use Rattle.hbird.specs.declared.due.Ending.{Ending}
 use Rattle.hbird.specs.declared.due.Ending.TheVariants.{Done, Stopped, TextRefused, WordsRefused}
@@ -155,12 +155,8 @@ pub due-reported : (t : Table) (options : Options) (len : ℕ) (names : List Nam
     → (o : Outcome) × IsReported t options len o × (ending ≡ o.ending) × (text ≡ o.text) × (o.takes ≡ len)
 due-reported t options len names log runs ending text ordered promise bodies e f = (
   reported t options names log runs len,
-  record { names = names; log = log; runs = runs; history = ordered.history; in_order = in_order options.order ordered; promise = promise; bodies = bodies; same = refl },
+  record { names = names; log = log; runs = runs; history = ordered.history; in_order = λ fixed. ordered; promise = promise; bodies = bodies; same = refl },
   e,
   f,
   refl,
 )
-  where
-    in_order : (order : Option (List ℕ)) → IsOrdered t options.changes options.steps (order_or order) names log runs → IsInOrder t options order names log runs
-    in_order None is = tt
-    in_order (Some order) is = is

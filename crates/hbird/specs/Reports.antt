@@ -1,5 +1,5 @@
 -- What a program comes to: the report of its runs, and their trace where it is wanted.
-use Rattle.std.specs.Prelude.{◌≡◌, ℕ, ◌+◌, List, [], ◌++◌, length, Bool, true, false, Option, Some, None, if◌then◌else◌}
+use Rattle.std.specs.Prelude.{◌≡◌, ◌≤◌, ℕ, ◌+◌, List, [], ◌++◌, length, Option, Some, None, if◌then◌else◌}
 use Rattle.std.specs.List.{AllByRecursion, list_all}
 use Rattle.hb_tree.specs.Table.{Table}
 use Rattle.hb_names.specs.Names.{Name}
@@ -33,22 +33,6 @@ traced t options names log = if options.trace then trace_by t options.order name
 abbrev pub reported : Table → Options → List Name → List Entry → List Told → ℕ → Outcome
 reported t options names log runs len = record { ending = ending_of runs; text = report_of t runs ++ traced t options names log; takes = len }
 
--- where an order of turns was given, the history is the one that these turns fix
-abbrev pub IsInOrder : Table → Options → Option (List ℕ) → List Name → List Entry → List Told → Type 0
-IsInOrder t options None names log runs = Unit {0}
-IsInOrder t options (Some order) names log runs = IsOrdered t options.changes options.steps order names log runs
-
--- The report is that of the program's runs against one legal history, which holds each of their table calls once. Each call enters exactly where a fresh check succeeds, no type that a live frame uses is changed, and a stop at a node in a definition's body is for a named cause.
-pub record IsReported (t : Table) (options : Options) (len : ℕ) (o : Outcome) : Type 0 where
-  pub names : List Name
-  pub log : List Entry
-  pub runs : List Told
-  pub history : IsHistory t options.changes options.steps names log runs
-  pub in_order : IsInOrder t options options.order names log runs
-  pub promise : KeepsPromise t names log runs
-  pub bodies : AllByRecursion (StopsInBodies t) runs
-  pub same : o ≡ reported t options names log runs len
-
 abbrev pub order_or : Option (List ℕ) → List ℕ
 order_or None = []
 order_or (Some order) = order
@@ -56,3 +40,19 @@ order_or (Some order) = order
 -- the scripts whose turns come first
 abbrev pub order_or_none : Options → List ℕ
 order_or_none options = order_or options.order
+
+-- whose turns they are is fixed: by an order that was given, or since there is one script at most
+abbrev pub AreFixed : Table → Option (List ℕ) → Type 0
+AreFixed t None = length t.scripts ≤ 1
+AreFixed t (Some order) = Unit {0}
+
+-- The report is that of the program's runs against one legal history, which holds each of their table calls once. Where the turns are fixed it is the one that they fix. Each call enters exactly where a fresh check succeeds, no type that a live frame uses is changed, and a stop at a node in a definition's body is for a named cause.
+pub record IsReported (t : Table) (options : Options) (len : ℕ) (o : Outcome) : Type 0 where
+  pub names : List Name
+  pub log : List Entry
+  pub runs : List Told
+  pub history : IsHistory t options.changes options.steps names log runs
+  pub in_order : AreFixed t options.order → IsOrdered t options.changes options.steps (order_or_none options) names log runs
+  pub promise : KeepsPromise t names log runs
+  pub bodies : AllByRecursion (StopsInBodies t) runs
+  pub same : o ≡ reported t options names log runs len

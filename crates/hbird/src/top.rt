@@ -1,6 +1,6 @@
 //! The top call: all that the program does, over any source and sink.
 
-ghost use Rattle.std.specs.Prelude.{◌≡◌, ◌≤◌, ℕ, List, Err, IfOk, IsNone, OnErr, Some, length, map};
+ghost use Rattle.std.specs.Prelude.{◌≡◌, ◌≤◌, ℕ, List, Err, IfOk, IsNone, OnErr, length, map};
 ghost use Rattle.std.specs.Io.KnownBytes.{Keeps};
 ghost use Rattle.std.specs.Option.{option_map};
 ghost use Rattle.hb_eval.specs.Told.{told_by};
@@ -15,7 +15,7 @@ ghost use Rattle.hbird.specs.Answers.{Answers, Ends, IsDueFor, IsOne, IsReadAs, 
 ghost use Rattle.hbird.specs.Reports.{order_or_none};
 ghost use Rattle.hbird.specs.Faults.{fault_line};
 ghost use Rattle.hbird.specs.Outcomes.{IsDue, IsDueBy, IsRefused, Outcome, fault_of};
-ghost use Rattle.hbird.specs.Reports.{IsReported, ending_of, traced};
+ghost use Rattle.hbird.specs.Reports.{AreFixed, IsReported, ending_of, traced};
 
 use crate::due::{Due, Ending, Stop};
 use crate::faults::{Fault, fault_line, lex_fault, parse_fault};
@@ -173,9 +173,9 @@ pub fn one_due()
     hb_parse::one_answer();
 }
 
-/// With an order a program has one report, and one trace.
+/// With an order a program has one report and one trace, and so has one of one script without an order.
 pub fn one_report()
-    ensures { (t : Table) (options : Options) (order : List ℕ) (len : ℕ) (a b : Outcome) → options.order ≡ Some order → IsReported t options len a → IsReported t options len b → a ≡ b }
+    ensures { (t : Table) (options : Options) (len : ℕ) (a b : Outcome) → AreFixed t options.order → IsReported t options len a → IsReported t options len b → a ≡ b }
 {
     an_order_has_one_history();
 }
@@ -192,7 +192,7 @@ pub fn hbird<'a, S: Source, K: Sink>(
     out: &mut K,
 ) -> u8
     ensures one_due { (options : Options) (text : List ℕ) (a b : Outcome) → IsRunOf options text a → IsRunOf options text b → IsOne a b }
-    ensures one_report { (t : Table) (options : Options) (order : List ℕ) (len : ℕ) (a b : Outcome) → options.order ≡ Some order → IsReported t options len a → IsReported t options len b → a ≡ b }
+    ensures one_report { (t : Table) (options : Options) (len : ℕ) (a b : Outcome) → AreFixed t options.order → IsReported t options len a → IsReported t options len b → a ≡ b }
     ensures answers { let old : Ends = record {
       left = S.left source.old;
       read_faults = S.faults source.old;

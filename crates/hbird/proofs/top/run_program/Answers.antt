@@ -1,4 +1,4 @@
-use Rattle.std.proofs.Common.{ℕ, List, ◌≡◌, ◌++◌, ◌∙◌, ap₂, map, rules, subst}
+use Rattle.std.proofs.Common.{ℕ, List, ◌≡◌, ◌++◌, map, rules, subst}
 use Rattle.hb_eval.specs.Told.{told_by}
 use Rattle.hb_jobs.specs.Jobs.{options_told}
 use Rattle.hb_report.specs.Report.{report_of}
