@@ -14,7 +14,7 @@ pub mod machine;
 mod methods;
 mod moves;
 mod named;
-mod noting;
+pub mod noting;
 pub mod operators;
 pub mod printed;
 pub mod script_run;

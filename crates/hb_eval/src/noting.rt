@@ -30,8 +30,8 @@ impl Begun for Brand {
 
 /// A door that is lent.
 #[derive(Drop)]
-pub(crate) struct Lent<'a, D: Desk> {
-    pub(crate) desk: &'a mut D,
+pub struct Lent<'a, D: Desk> {
+    pub desk: &'a mut D,
 }
 
 /// A door, and notes of what its caller does through it.

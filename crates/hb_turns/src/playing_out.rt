@@ -13,6 +13,7 @@ ghost use Rattle.hb_turns.specs.Players.{GoesAmong};
 use crate::player::Player;
 use hb_call::Share;
 use hb_eval::machine::Turn;
+use hb_eval::noting::Lent;
 use hb_names::PlainNames;
 use hb_tables::desk::Desk;
 use hb_tables::plain::PlainTables;
@@ -72,7 +73,9 @@ pub fn play_to_end(
     ensures limit { OnOk result (tables.new.limit ≡ tables.old.limit) }
 {
     let mut desk = tables.desk(caller);
-    take_turns(alloc, prog, player, &mut desk, names)?;
+    // Through a lent door, so that this loop has code of its own, into which a step is inlined.
+    let mut lent = Lent { desk: &mut desk };
+    take_turns(alloc, prog, player, &mut lent, names)?;
     // All entries that came are the caller's own.
     tables.history();
     Ok(())
