@@ -47,10 +47,12 @@ _hb_files() {
 }
 
 _hb() {
-    local typed=${COMP_WORDS[COMP_CWORD]} command="" options=(--json "${_hb_options[@]}")
+    local typed=${COMP_WORDS[COMP_CWORD]} command="" options=(--json --runs= "${_hb_options[@]}")
     COMPREPLY=()
     ((COMP_CWORD == 1)) || command=${COMP_WORDS[1]}
     [[ $command != fmt ]] || options=(--check)
+    [[ $command != derive && $command != verify ]] || options=()
+    [[ $command != trace ]] || options=(-o --from= --order= --steps= --versions=)
     case $command in
         explain) _hb_reply_anyhow "$typed" < <(_hb_words "$1" "${COMP_WORDS[COMP_CWORD - 1]}") ;;
         help | lsp | new) ;;
@@ -58,7 +60,7 @@ _hb() {
             if [[ $typed == -* && " ${COMP_WORDS[*]:1:COMP_CWORD-1} " != *" -- "* ]]; then
                 _hb_reply_options "$typed" "${options[@]}"
             else
-                [[ -n $command ]] || _hb_reply "$typed" < <(printf '%s\n' run watch new fmt lsp explain help)
+                [[ -n $command ]] || _hb_reply "$typed" < <(printf '%s\n' run trace derive verify watch new fmt lsp explain help)
                 _hb_files "$typed"
             fi
             ;;
@@ -68,10 +70,10 @@ _hb() {
 _hbird() {
     local typed=${COMP_WORDS[COMP_CWORD]}
     COMPREPLY=()
-    if ((COMP_CWORD > 1)); then
+    if ((COMP_CWORD == 1)); then
+        _hb_reply "$typed" < <(printf '%s\n' run derive verify gen work)
+    elif [[ ${COMP_WORDS[1]} == run ]]; then
         _hb_reply_options "$typed" "${_hb_options[@]}"
-    else
-        _hb_reply "$typed" <<<run
     fi
 }
 

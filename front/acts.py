@@ -89,10 +89,18 @@ class Trace:
     def retreat(self, number, call):
         """A newer body came between the first hold of a call and its decision."""
         self.retreats.add(call)
-        method = self.called.get(call)
-        newer = [act for act in self.acts[:number] if act and (act.word, act.method) == ("def", method)]
-        whose = " of %s" % self.who(newer[-1].caller) if newer else ""
+        body = self.overtaking(number, call)
+        whose = " of %s" % self.who(self.acts[body].caller) if body is not None else ""
         return "a newer body%s came before %s was decided, which goes on with that" % (whose, self.of_call(call))
+
+    def overtaking(self, number, call):
+        """The line of the newest body that came to a called method between the first hold of the call and this line, or None.
+
+        Where scripts ran at once another one's acts stand elsewhere in the trace, and it is not known which it was.
+        """
+        first = next(at for at in range(number) if self.acts[at] and (self.acts[at].caller, self.acts[at].call) == call)
+        bodies = [at for at in range(first, number) if self.acts[at] and (self.acts[at].word, self.acts[at].method) == ("def", self.called.get(call))]
+        return bodies[-1] if bodies else None
 
     def fresh(self, number, act):
         """What became of the check that the caller had kept of this method, if it had one."""

@@ -3,7 +3,7 @@ import difflib
 import os
 import shlex
 
-COMMANDS = ("run", "watch", "new", "fmt", "lsp", "explain", "help")
+COMMANDS = ("run", "trace", "derive", "verify", "watch", "new", "fmt", "lsp", "explain", "help")
 
 
 def parted(words):

@@ -27,9 +27,10 @@ each_file() {
     find editors/emacs -type f -printf '644 %p share/emacs/site-lisp/%P\n'
     find editors/vim -type f -printf '644 %p share/vim/vimfiles/%P\n'
     find editors/vscode -type f -printf '644 %p share/hbird/vscode/%P\n'
-    for file in README.md editors/README.md docs/*.md; do
+    for file in README.md CHANGELOG.md editors/README.md docs/*.md; do
         echo "644 $file share/doc/hbird/$file"
     done
+    find docs/pictures -type f -printf '644 %p share/doc/hbird/%p\n'
     find examples -type f -printf '644 %p share/doc/hbird/%p\n'
 }
 

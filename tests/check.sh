@@ -6,6 +6,8 @@
 #
 # Without a word it tries the program that the launcher would run.
 set -euo pipefail
+# Parts go to other folders.
+named=${1:+$(realpath -- "$1")}
 cd "$(dirname "$0")/.."
 # A program that is named here would be run in place of each that is tried.
 unset HBIRD
@@ -93,7 +95,11 @@ check_program() {
         part check "the programs of docs/ERRORS.md" python3 tests/errors.py "$program"
         part check "hints" python3 tests/hints.py "$program"
         part check "lists of words" python3 tests/words.py "$program"
+        part check "bundles" python3 tests/bundles.py "$program"
+        part check "programs of one script" python3 tests/alone.py "$program"
         part check "scripts by turns" python3 tests/turns.py "$program"
+        part check "scripts at once" python3 tests/at_once.py "$program"
+        part check "scripts at once with little memory" python3 tests/memory.py "$program"
     fi
 }
 
@@ -101,6 +107,8 @@ check_front() {
     part check "hb" python3 tests/front.py
     part check "the streams of hb" python3 tests/streams.py
     part check "the commands of hb" python3 tests/commands.py "$program"
+    [[ ! -x $program ]] || part check "the pictures of runs" python3 tests/pictures.py "$program"
+    [[ ! -x $program ]] || part check "the page" python3 tests/page.py "$program"
     part check "hb fmt" python3 tests/fmt.py "$program"
     part check "hb lsp" python3 tests/lsp.py "$program"
     part check "the editors" python3 tests/editors.py
@@ -109,8 +117,8 @@ check_front() {
     part check_completion
 }
 
-if [[ $# -gt 0 ]]; then
-    program=$1
+if [[ -n $named ]]; then
+    program=$named
 elif ! find_program; then
     program=
 fi

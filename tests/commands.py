@@ -47,6 +47,23 @@ ROWS = [
     ("run nosuch.hb", "", 4, "nosuch.hb: No such file or directory\n"),
     ("run", "", 2, "no file is named; hb help tells what hb does\n"),
     ("run --json a.hb", '{"file": "a.hb", "status": 0, "fault": null, "sections": [], "trace": null, "other": ["run (32)"]}\n', 0, ""),
+    # several runs
+    ("--runs=3 a.hb", "3 runs, and all gave one report\n\n==> 3 of 3 <==\nrun (32)\n", 0, ""),
+    ("--runs=2 --json --steps=3 a.hb", '{"file": "a.hb", "status": 0, "fault": null, "sections": [], "trace": null, '
+     '"other": ["run --steps=3 (32)"], "times": 2}\n', 0, ""),
+    ("--runs=2 nosuch.hb", "", 4, "nosuch.hb: No such file or directory\n"),
+    *[("--runs=%s a.hb" % value, "", 2, "--runs=%s: the value of --runs is 2 to 10,000\n" % value)
+      for value in ("0", "1", "10001", "9999999999", "12345678901", "-2", "+2", "2.5", "x", "", "\u0663")],
+    ("--runs=0000000002 a.hb", "2 runs, and all gave one report\n\n==> 2 of 2 <==\nrun (32)\n", 0, ""),
+    ("--runs=2 --runs=2 a.hb", "", 2, "--runs stands once, and not as --runs=2 --runs=2\n"),
+    ("--runs=3 --quick a.hb", "words refused\n", 2, "there is no option --quick; hb help tells what there is\n"),
+    ("--runs=2 a.hb run", "==> a.hb <==\n2 runs, and all gave one report\n\n==> 2 of 2 <==\nrun (32)\n\n==> run <==\n"
+     "2 runs, and all gave one report\n\n==> 2 of 2 <==\nrun (2)\n", 0, ""),
+    ("--runs=3 a.hb | true; exit ${PIPESTATUS[0]}", "", 5, ""),
+    ("--runs=3 a.hb >&-", "", 5, "the output cannot be written: Bad file descriptor\n"),
+    ("--runs=3 a.hb > /dev/full", "", 5, "the output cannot be written: No space left on device\n"),
+    ("--runs a.hb", "", 2, "--runs wants its value behind a =, as in --runs=..: 2 to 10,000\n"),
+    ("--run=3 a.hb", "words refused\n", 2, "there is no option --run=3; is it --runs?\n"),
     # a wrong option
     ("--order=h a.hb", "words refused\n", 2,
      "--order=h: the value of --order is 1 to 10,000 characters, each one of 1 to 9 and a to g\n"),

@@ -13,7 +13,7 @@ import sys
 
 from markdown import ROOT, sections
 
-WORDS = """TooLong BadByte OpenText BadEscape BigNumber LongName LongLiteral
+WORDS = """TooLong BadBundle BadByte OpenText BadEscape BigNumber LongName LongLiteral
     UnknownClass TwiceClass TwiceScript TwiceParam TooDeep
     NilValue BadOperand NoBody NoType BadArgs IllTyped Overflow LongText OutputFull Busy BadName Deep Full Worn Steps
     Unbound NoSelf
@@ -37,12 +37,16 @@ def options(block):
     return words.read_text().split() if block.file and words.exists() else []
 
 
-def run(program, block, words=()):
+# Of these words no run tells.
+JOBS = {"BadBundle": "verify"}
+
+
+def run(program, block, words=(), job="run"):
     """What the program writes, as lines, and its status, on the text that a block has or makes."""
     text = block.text.encode()
     if block.language == "sh":
         text = subprocess.run(["bash", "-c", block.text], stdout=subprocess.PIPE, check=True).stdout
-    done = subprocess.run([program, "run", *words], input=text, stdout=subprocess.PIPE)
+    done = subprocess.run([program, job, *words], input=text, stdout=subprocess.PIPE)
     return done.stdout.decode().splitlines(), done.returncode
 
 
@@ -53,13 +57,13 @@ def wrongs(program, section):
         yield "its blocks are: %s" % ", ".join(shape)
         return
     wrong, told, mended, *printed = section.blocks
-    line = told.text.rstrip("\n")
-    lines, status = run(program, wrong, options(wrong))
+    line, job = told.text.rstrip("\n"), JOBS.get(section.title, "run")
+    lines, status = run(program, wrong, options(wrong), job)
     if line not in lines or status != (1 if line.startswith("text ") else 6):
         yield "%r is due, and %r came with status %d" % (line, lines[-2:], status)
     if " %s " % section.title not in line + " ":
         yield "the line has another word"
-    lines, status = run(program, mended, options(wrong))
+    lines, status = run(program, mended, options(wrong), job)
     if status != 0:
         yield "the mended program ends with %r and status %d" % (lines[-2:], status)
     elif printed and [each for each in lines if each.startswith("> ")] != printed[0].text.splitlines():

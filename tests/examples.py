@@ -4,9 +4,10 @@
 
 Beside examples/NAME.hb stands its report, NAME.out, or only the last lines of
 a long one, NAME.tail; NAME.status where the status is not 0; and NAME.words
-with the options of its run where it has some. A recording
-is a block `console` of README.md, with commands behind `$ `. With --write the
-reports are written anew, to be read as a diff.
+with the options of its run where it has some. Where scripts run at once and
+several reports may come, NAME.reports has them all, each behind a line with
+the reason. A recording is a block `console` of README.md, with commands behind
+`$ `. With --write the reports are written anew, to be read as a diff.
 """
 import os
 import subprocess
@@ -18,6 +19,8 @@ from markdown import ROOT, sections
 PROGRAM = os.path.abspath(sys.argv[-1])
 # So many of a report's last lines are kept of one that is longer than this.
 TAIL, LONG = 2, 65536
+# A text with several reports is run so often. Which of them come is left open.
+OFTEN = 30
 
 
 def options(text):
@@ -57,8 +60,26 @@ def write(text):
             file.unlink()
 
 
+def reports(text):
+    """The reports of a text that may come, or none where it has one alone."""
+    file = text.with_suffix(".reports")
+    parts = file.read_text().split("== ")[1:] if file.exists() else []
+    return [part.partition("\n")[2] for part in parts]
+
+
+def one_of_several(text):
+    """A report of the text that may not come, or None."""
+    came = (run(text)[0] for _ in range(OFTEN))
+    return next((report for report in came if report not in reports(text)), None)
+
+
 def examples_are_kept(writes):
     for text in sorted((ROOT / "examples").glob("**/*.hb")):
+        if reports(text):
+            other = one_of_several(text)
+            if other is not None:
+                yield "%s: %r came" % (text.relative_to(ROOT), other)
+            continue
         if writes:
             write(text)
         if due(text) != kept(text):

@@ -166,6 +166,10 @@ trace
      "trace\n1 hold 1 A.f two.hb:1:1 1\n1 hold 2 A.f two.hb:1:1 1\n1 hold 3 A.f two.hb:1:1 1\n"
      "2 hold 1 A.f two.hb:1:1 1\n2 busy A.f 4\n  why: the type of A.f is in use by call 1 of script one (A.f) and call 2 "
      "of script one (A.f) and call 3 of script one (A.f) and 1 more\n", 0, ""),
+    # several runs: what does not hang on how scripts went is run once
+    ("--runs=9 a.hb", "", 3, "9 runs, and all gave one report\n\n==> 9 of 9 <==\n", 3, ""),
+    ("--runs=9 a.hb", "text TooLong\n", 1, "text TooLong\n  TooLong: The text has more than 1,048,576 bytes.\n"
+     "  (hb explain TooLong)\n", 1, ""),
     # words
     ("a.hb one_line.hb", "words", 0, "==> a.hb <==\nrun (32)\n\n==> one_line.hb <==\nrun (67)\n", 0, ""),
     ("a.hb nosuch.hb a.hb", "", 6, "==> a.hb <==\n\n==> nosuch.hb <==\n\n==> a.hb <==\n", 6, "hb: nosuch.hb: No such"),
@@ -273,6 +277,35 @@ def try_output(room):
     room.executable("killed", "#!/bin/sh\nkill -9 $$\n")
     _, says, status = room.run("a.hb", HBIRD=str(room.folder / "killed"))
     room.expect("a killed program", (says, status), ("hb: the program was ended by signal 9\n", 137))
+    try_several(room)
+
+
+# Ends in another way each time, by the number of the runs before it.
+CHANGING = """#!/bin/sh
+echo >> runs; number=$(wc -l < runs)
+[ $number = 2 ] && kill -9 $$
+printf 'script s\n> %d\ndone\ncalls 0 own 0 shared 0 fresh 0\n' $((number > 3)); exit $((6 * (number > 3)))
+"""
+CHANGED = "script s\n> %d\ndone\ncalls 0 own 0 shared 0 fresh 0\n"
+
+
+def try_several(room):
+    """Several runs of which one is killed, and a program that cannot be started: each is told of once."""
+    program = str(room.executable("changing", CHANGING))
+    out, says, status = room.run("--runs=6 a.hb", HBIRD=program)
+    room.expect("runs of which one is killed", (out, says, status), (
+        "6 runs gave 3 different reports\n\n==> 3 of 6 <==\n" + CHANGED % 1 + "\n==> 2 of 6 <==\n" + CHANGED % 0 +
+        "\n==> 1 of 6 <==\n", "hb: the program was ended by signal 9\n", 137))
+    (room.folder / "runs").unlink()
+    out, _, status = room.run("--runs=3 --json a.hb", HBIRD=program)
+    told = [json.loads(line) for line in out.splitlines()]
+    room.expect("the objects of such runs", ([(row["status"], row["times"]) for row in told], status),
+                ([(0, 2), (137, 1)], 137))
+    out, says, status = room.run("--runs=9 a.hb", HBIRD=str(room.folder / "killed"))
+    room.expect("runs that are all killed", (out, says, status), (
+        "9 runs, and all gave one report\n\n==> 9 of 9 <==\n", "hb: the program was ended by signal 9\n", 137))
+    out, says, status = room.run("--runs=9 a.hb", HBIRD="/nosuch")
+    room.expect("several runs of no program", (out, says, status), ("", "hb: /nosuch: No such file or directory\n", 70))
 
 
 # Programs that do not run on this machine: what stands for each.

@@ -32,8 +32,10 @@ OPENERS = ("script", "setup", "def", "if", "while")
 
 
 def run(text, *options):
-    """The lines of the report on a text."""
-    done = subprocess.run([PROGRAM, "run", *options], input=text, stdout=subprocess.PIPE)
+    """The lines of the report on a text. Of several scripts the first one goes first, so that there is one report."""
+    ordered = any(option.startswith("--order") for option in options)
+    order = ["--order=1"] if text.count(b"\nscript ") > 1 and not ordered else []
+    done = subprocess.run([PROGRAM, "run", *order, *options], input=text, stdout=subprocess.PIPE)
     return done.stdout.decode("utf-8", "surrogateescape").splitlines()
 
 

@@ -35,11 +35,11 @@ path_without_kit() {
     echo "${found#:}"
 }
 
-# Runs a command without the kit, for two seconds at most, and once more where it takes longer, as on a busy machine.
+# Runs a command without the kit, for ten seconds at most, and once more where it takes longer, as on a very busy machine.
 in_time() {
     local status=0
-    PATH=$without_kit timeout 2 "$@" >"$room/wrote" 2>"$room/told" || status=$?
-    [[ $status != 124 ]] || { status=0 && PATH=$without_kit timeout 2 "$@" >"$room/wrote" 2>"$room/told" || status=$?; }
+    PATH=$without_kit timeout 10 "$@" >"$room/wrote" 2>"$room/told" || status=$?
+    [[ $status != 124 ]] || { status=0 && PATH=$without_kit timeout 10 "$@" >"$room/wrote" 2>"$room/told" || status=$?; }
     return "$status"
 }
 

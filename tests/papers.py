@@ -11,8 +11,10 @@ import sys
 
 from markdown import FENCE, ROOT, anchors, sections
 
-sys.path.insert(0, str(ROOT / "front"))
+sys.path[:0] = [str(ROOT / "front"), str(ROOT / "tools")]
 import command  # noqa: E402
+import headline  # noqa: E402
+import lines  # noqa: E402
 
 PAPERS = sorted([*ROOT.glob("*.md"), *ROOT.glob("*/*.md")])
 EDITORS = ["vim/syntax/hbird.vim", "emacs/hbird-mode.el", "vscode/syntaxes/hbird.tmLanguage.json"]
@@ -99,6 +101,80 @@ def options_are_everywhere():
         yield "docs/FORMATS.md: the table of options is not found"
 
 
+def named_files_are_there(paper):
+    """Each file that is named in the guide is there, from the top or from crates/ on."""
+    for span in re.findall(r"`([^`\n]+)`", paper.read_text()):
+        for word in span.split():
+            named = re.fullmatch(r"[\w.-]+(/[\w.-]+)+", word)
+            if named and "/out/" not in word and not ((ROOT / word).exists() or (ROOT / "crates" / word).exists()):
+                yield "there is no file %s" % word
+
+
+def crates():
+    """The crates of crates.txt, each with those on which it stands."""
+    parts = [line.partition(":") for line in (ROOT / "crates.txt").read_text().splitlines()]
+    return {name.split()[0]: set(rest.split()) for name, _, rest in parts if name.strip() and not name.startswith("#")}
+
+
+def rows(section, paper):
+    """The rows below a heading that begin with a name in backquotes, each as its cells."""
+    found = [line for part in sections(paper) if part.title == section for line in part.lines if line.startswith("| `")]
+    return [[cell.strip() for cell in line.strip().strip("|").split("|")] for line in found]
+
+
+def crates_are_told():
+    """docs/ARCHITECTURE.md has a row and a heading for each crate, and the row says on which others it stands."""
+    paper, known = ROOT / "docs/ARCHITECTURE.md", crates()
+    told = {row[0].strip("`"): set(re.findall("`(.*?)`", row[2])) for row in rows("Architecture", paper)}
+    headed = {part.title.strip("`") for part in sections(paper) if part.title.startswith("`")}
+    for name in sorted(known.keys() | told.keys() | headed):
+        if name not in known:
+            yield "%s is no crate" % name
+        elif name not in headed:
+            yield "%s has no heading" % name
+        elif told.get(name) != known[name]:
+            yield "%s does not stand on what its row says, by crates.txt" % name
+
+
+def crates_are_proved():
+    """docs/PROOFS.md has a sentence for each crate that is no crate of tests."""
+    told = {line.split("`")[1] for part in sections(ROOT / "docs/PROOFS.md") if part.title == "Each crate in a sentence"
+            for line in part.lines if line.startswith("- `")}
+    for name in sorted(told ^ {name for name in crates() if not name.startswith("hb_trials")}):
+        yield "%s has no sentence, or is no crate" % name
+
+
+def crates_are_measured():
+    """In docs/PROOFS.md each crate has a row in the table of the gate's time, or is named below it as not measured yet."""
+    title, paper = "What the gate costs", ROOT / "docs/PROOFS.md"
+    measured = [row[0].strip("`") for row in rows(title, paper)]
+    text = "".join(line for part in sections(paper) if part.title == title for line in part.lines)
+    awaited = re.findall("`(.*?)`", "".join(re.findall(r"^Not measured yet: .*$", text, re.M)))
+    for name in sorted(crates().keys() | set(measured) | set(awaited)):
+        if name not in crates():
+            yield "what the gate costs: %s is no crate" % name
+        elif name not in measured and name not in awaited:
+            yield "what the gate costs: %s has no row, and is not named as not measured yet" % name
+        elif name in measured and name in awaited:
+            yield "what the gate costs: %s has a row, and is named as not measured yet" % name
+
+
+def paragraphs_are_short(paper, most=100):
+    """No paragraph and no item of a list has more words. Rows of a table do not count."""
+    for section in sections(paper):
+        text = "".join("\n" + line if re.match(r"[-|]|\d+\. ", line) else line for line in section.lines)
+        for part in re.split(r"\n\s*\n", text):
+            words = part.split()
+            if len(words) > most and words[0] != "|":
+                yield "a paragraph has %d words, more than %d: %s .." % (len(words), most, " ".join(words[:6]))
+
+
+def version_has_its_changes():
+    version = (ROOT / "VERSION").read_text().strip()
+    if not re.search(r"(?<![\d.])%s(?![\d])" % re.escape(version), (ROOT / "CHANGELOG.md").read_text()):
+        yield "CHANGELOG.md: the version %s is not there" % version
+
+
 def write(paper):
     """Gives each block that names a file that file's text."""
     lines, kept, skips = paper.read_text().splitlines(keepends=True), [], False
@@ -120,6 +196,12 @@ def main():
         for rule in (blocks_are_files, links_lead_somewhere, examples_are_listed):
             wrong += ["%s: %s" % (paper.relative_to(ROOT), message) for message in rule(paper)]
     wrong += [*tables_are_one(), *editors_know_all_words(), *commands_are_everywhere(), *options_are_everywhere()]
+    architecture = ROOT / "docs/ARCHITECTURE.md"
+    for message in (*crates_are_told(), *paragraphs_are_short(architecture), *named_files_are_there(architecture)):
+        wrong.append("docs/ARCHITECTURE.md: %s" % message)
+    wrong += ["docs/PROOFS.md: %s" % message for message in (*crates_are_proved(), *crates_are_measured())]
+    wrong += [*version_has_its_changes(), *headline.faults(), *lines.faults()]
+    wrong += ["CONTRIBUTING.md: %s" % message for message in named_files_are_there(ROOT / "CONTRIBUTING.md")]
     for message in wrong:
         print(message)
     print("%d papers, %d wrong" % (len(PAPERS), len(wrong)))

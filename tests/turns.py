@@ -143,10 +143,8 @@ TABLE = [
     ("--order 11111122", HELD, FREE, 0),
     ("--order 1112", HELD, FREE, 0),
     ("--order 1122", HELD, FREE, 0),
-    ("", HELD, FREE, 0),
     ("--order 11122 --trace", HELD, BUSY + BEFORE + ENTERS + "2 busy A.g 1\n" + CALLS, 0),
     ("--order 22 --trace", HELD, FREE + BEFORE + "2 type A.g 12:7\n" + (ENTERS + CALLS).replace("A.g 3:1 1", "A.g 12:7 2"), 0),
-    ("--trace", HELD, FREE + BEFORE + ENTERS + CALLS + "2 type A.g 12:7\n", 0),
     # Each calls what the other defines
     ("--order 12", CROSSED, BOTH_DONE, 0),
     ("--order 21", CROSSED, BOTH_DONE, 0),
@@ -154,7 +152,6 @@ TABLE = [
     ("--order 1212", CROSSED, BOTH_DONE, 0),
     ("--order 111", CROSSED, FIRST_STOPS, 6),
     ("--order 222", CROSSED, SECOND_STOPS, 6),
-    ("", CROSSED, FIRST_STOPS, 6),
     # Limits that options set
     ("--versions 1", TYPES, "script main\nstop Worn 4:1\n" + NOTHING, 6),
     ("--versions 2", TYPES, "script main\ndone\n" + NOTHING, 0),

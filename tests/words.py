@@ -1,4 +1,4 @@
-"""Lists of words behind the program's name, each with its answer: refused, or which run it asks for.
+"""Lists of words behind the program's name, each with its answer: refused, which run it asks for, or what is written, with its status.
 
     python3 tests/words.py PATH_TO_HBIRD
 
@@ -19,6 +19,34 @@ def run(**told):
     seen = dict(steps=100000) if told.get("order") or told.get("trace") else {}
     return dict(USUAL, **dict(seen, **told))
 
+
+def generated(size):
+    """The generated program of a size, written here once more from what docs/FORMATS.md says."""
+    scripts = range(1, min(size, 4) + 1)
+    lines = ["class C%d" % i for i in range(1, size + 1)]
+    for script in scripts:
+        blocks = [BLOCK.replace("I", str(i)).replace("@", "I") for i in range(1, size + 1) if i % 4 == script % 4]
+        lines += ["script s%d" % script, *blocks, "end"]
+    return "".join(line + "\n" for line in lines)
+
+
+# The two methods of a class, where `I` is its number and `@` an `I`.
+BLOCK = """type CI.add : (@nt, @nt) -> @nt
+def CI.add(a, b) a + b end
+type CI.sum : (@nt) -> @nt
+def CI.sum(n) t = 0; while 0 < n do t = self.add(t, n); n = n - 1 end; t end
+print CI.new.sum(I)"""
+
+# Where the second script's turn comes first, the method has a body as the first one calls it.
+TURNS = """class A
+script one
+A.new.m
+end
+script two
+def A.m() 1 end
+type A.m : () -> Int
+end
+"""
 
 TABLE = [
     # The command
@@ -42,11 +70,43 @@ TABLE = [
     (["run", ""], REFUSED),
     (["run", "a", "b"], REFUSED),
     (["run", "--", "--trace"], REFUSED),
-    (["derive"], REFUSED),
-    (["verify"], REFUSED),
-    (["work", "5"], REFUSED),
-    (["gen", "5"], REFUSED),
+    # Bundles
+    (["derive"], ("program 83\n" + TURNS, 6)),
+    (["--", "derive"], ("program 83\n" + TURNS, 6)),
+    (["derive", "5"], REFUSED),
+    (["derive", "derive"], REFUSED),
+    (["derive", "--trace"], REFUSED),
+    (["derive", "--order=1"], REFUSED),
+    (["derive", "--steps", "9"], REFUSED),
+    (["derive", "--versions=9"], REFUSED),
+    (["verify"], ("text BadBundle 1:1\n", 1)),
+    (["verify", "--"], ("text BadBundle 1:1\n", 1)),
+    (["verify", "5"], REFUSED),
+    (["verify", "derive"], REFUSED),
+    (["--trace", "verify"], REFUSED),
+    (["verify", "--order=1"], REFUSED),
+    (["--steps=9", "verify"], REFUSED),
+    (["verify", "--versions", "9"], REFUSED),
+    (["Verify"], REFUSED),
+    (["verif"], REFUSED),
+    # Generated programs
+    (["gen", "1"], (generated(1), 0)),
+    (["gen", "--", "0000000200"], (generated(200), 0)),
+    (["gen"], REFUSED),
+    (["gen", "0"], REFUSED),
+    (["gen", "201"], REFUSED),
+    (["gen", "5", "5"], REFUSED),
     (["gen", "--", "-5"], REFUSED),
+    (["gen", "5", "--trace"], REFUSED),
+    (["gen", "5", "--steps=9"], REFUSED),
+    (["work", "1"], ("work 1 scripts 1 calls 2 own 0 shared 0 fresh 2\n", 0)),
+    (["work", "5"], ("work 5 scripts 4 calls 20 own 10 shared 0 fresh 10\n", 0)),
+    (["work", "200"], ("work 200 scripts 4 calls 20300 own 19900 shared 0 fresh 400\n", 0)),
+    (["work"], REFUSED),
+    (["work", "201"], REFUSED),
+    (["work", "five"], REFUSED),
+    (["work", "5", "--order=1"], REFUSED),
+    (["work", "5", "--versions=9"], REFUSED),
     (["--trace"], REFUSED),
     # Steps
     (["run", "--steps", "9"], run(steps=9)),
@@ -129,16 +189,6 @@ TABLE = [
      run(versions=3, trace=True, steps=50, order=True)),
 ]
 
-# Where the second script's turn comes first, the method has a body as the first one calls it.
-TURNS = b"""class A
-script one
-A.new.m
-end
-script two
-def A.m() 1 end
-type A.m : () -> Int
-end
-"""
 CHANGES = b"class A script s i = 0; while i < %d do type A.m : () -> Int; i = i + 1 end end"
 # It takes 6 steps, and 7 more for each turn.
 LOOP = b"script s i = 0; while i < %d do i = i + 1 end"
@@ -151,10 +201,14 @@ def answer(program, words, text):
 
 def wrongs(program, words, due):
     """What is wrong with the answer to these words, each as one line."""
-    found = answer(program, words, TURNS)
+    found = answer(program, words, TURNS.encode())
     if due is REFUSED:
         if found != (b"words refused\n", 2):
             yield "refused is due, and %r came" % (found,)
+        return
+    if isinstance(due, tuple):
+        if found != (due[0].encode(), due[1]):
+            yield "%.60r is due, and %.60r came" % (due, found)
         return
     report, _, trace = found[0].partition(b"trace\n")
     if found[1] not in (0, 6) or not report.startswith(b"script one\n"):
@@ -162,7 +216,8 @@ def wrongs(program, words, due):
         return
     if bool(trace) != due["trace"]:
         yield "the trace: %r" % found[0]
-    if due["steps"] > 2 and (b"NoBody" not in report) != due["order"]:
+    # Without an order the scripts run at once, and either may come first.
+    if due["steps"] > 2 and due["order"] and b"NoBody" in report:
         yield "the order: %r" % report
     yield from wrong_steps(program, words, due)
     yield from wrong_changes(program, words, due)

@@ -3,6 +3,7 @@
 ghost use Rattle.std.specs.Prelude.{◌≡◌, IfOk};
 ghost use Rattle.hb_tree.specs.Program.{IsProgram};
 ghost use Rattle.hb_tree.specs.Roots.{IsReachedOnce};
+ghost use Rattle.hb_draft.specs.Laid.{IsLaid};
 ghost use Rattle.hb_build.specs.Acts.{nothing};
 ghost use Rattle.hb_build.specs.Said.{said_in};
 ghost use Rattle.hb_build.specs.Sound.{IsSound, work_of};
@@ -70,6 +71,7 @@ impl Builder {
         ensures said { IfOk result (λ program. said_in program ≡ (work_of self).said) }
         ensures program { IfOk result IsProgram }
         ensures once { IfOk result IsReachedOnce }
+        ensures laid { IfOk result IsLaid }
     {
         self.draft.finish()
     }

@@ -36,10 +36,10 @@ begun_more g start old new more is one b = record {
   reads = λ l. ap (call_of g.t g.q.0 g.key.0 (kinds_of g.args)) (append_assoc b.made more l) ∙ b.reads (more ++ l) ∙ one l;
 }
 
-pub begun_hold : (g : Given) (j : KeyId) (ty : Option TypeSite) (n : ℕ) (start old new : List Entry) → Adds g.door.caller old new (Hold g.q j ty n) → fits_of g ≡ true → Begun g start old → Begun g start new
+pub begun_hold : (g : Given) (j : KeyId) (ty : Option TypeSite) (n : ℕ) (start old new : List Entry) → Adds g.door.caller old new (Hold j g.q ty n) → fits_of g ≡ true → Begun g start old → Begun g start new
 begun_hold g j ty n start old new adds fits b =
     let c = g.door.caller in let q = g.q in let kinds = kinds_of g.args in let hs = stands c q.0 old ++ record { key = j.0; ty = ty; changes = n } ∷ [] in
-    begun_more g start old new (Hold q j ty n ∷ []) (adds_act c old new (Hold q j ty n) adds)
+    begun_more g start old new (Hold j q ty n ∷ []) (adds_act c old new (Hold j q ty n) adds)
     (λ l. ap (λ (b : Bool). cond (b && eqb q.0 q.0) (decision (fits_of g) q.0 g.key.0 kinds hs l) Lost) fits ∙ ap (λ (b : Bool). cond b (decision (fits_of g) q.0 g.key.0 kinds hs l) Lost) (eq-eqb q.0 q.0 refl)
     ∙ ap (λ hs. decision (fits_of g) q.0 g.key.0 kinds hs l) (sym (hold_stands c q j ty n old new adds))) b
 
@@ -80,22 +80,22 @@ begun_frees g others start old new is h fits b =
     ∙ ap (λ (f : Bool). decision f q.0 g.key.0 kinds (stands c q.0 new) l) (sym fits)) b
 
 -- the first Hold begins it
-pub begun_first : (g : Given) (old new : List Entry) → Adds g.door.caller old new (Hold g.q g.key g.own.ty g.own.changes) → stands g.door.caller g.q.0 old ≡ [] → Begun g old new
+pub begun_first : (g : Given) (old new : List Entry) → Adds g.door.caller old new (Hold g.key g.q g.own.ty g.own.changes) → stands g.door.caller g.q.0 old ≡ [] → Begun g old new
 begun_first g old new adds none =
     let c = g.door.caller in let q = g.q in let key = g.key in let kinds = kinds_of g.args in let first : Stand = record { key = key.0; ty = g.own.ty; changes = g.own.changes } in
     record {
-      made = Hold q key g.own.ty g.own.changes ∷ [];
-      grows = adds_act c old new (Hold q key g.own.ty g.own.changes) adds;
+      made = Hold key q g.own.ty g.own.changes ∷ [];
+      grows = adds_act c old new (Hold key q g.own.ty g.own.changes) adds;
       reads = λ l. ap (λ (b : Bool). cond (b && eqb key.0 key.0) (decision (fits_of g) q.0 key.0 kinds (first ∷ []) l) Lost) (eq-eqb q.0 q.0 refl)
           ∙ ap (λ (b : Bool). cond b (decision (fits_of g) q.0 key.0 kinds (first ∷ []) l) Lost) (eq-eqb key.0 key.0 refl)
           ∙ ap (λ hs. decision (fits_of g) q.0 key.0 kinds hs l) (sym (hold_stands c q key g.own.ty g.own.changes old new adds ∙ ap (λ hs. hs ++ first ∷ []) none));
     }
 
 -- what others do then leaves it so
-pub begun_started : (g : Given) (door : Fixed) → g.door ≡ door → (old mid new : List Entry) → Adds door.caller old mid (Hold g.q g.key g.own.ty g.own.changes) → stands door.caller g.q.0 old ≡ [] → Learns door.caller mid new → Begun g old new
+pub begun_started : (g : Given) (door : Fixed) → g.door ≡ door → (old mid new : List Entry) → Adds door.caller old mid (Hold g.key g.q g.own.ty g.own.changes) → stands door.caller g.q.0 old ≡ [] → Learns door.caller mid new → Begun g old new
 begun_started g door same old mid new adds none learns =
     begun_learns g old mid new (subst (λ (d : Fixed). Learns d.caller mid new) (sym same) learns)
-    (begun_first g old mid (subst (λ (d : Fixed). Adds d.caller old mid (Hold g.q g.key g.own.ty g.own.changes)) (sym same) adds) (subst (λ (d : Fixed). stands d.caller g.q.0 old ≡ []) (sym same) none))
+    (begun_first g old mid (subst (λ (d : Fixed). Adds d.caller old mid (Hold g.key g.q g.own.ty g.own.changes)) (sym same) adds) (subst (λ (d : Fixed). stands d.caller g.q.0 old ≡ []) (sym same) none))
 
 same_itself : (t : Ty) → same_ty t t ≡ true
 same_itself (ty.Class c) = eq-eqb c.0 c.0 refl
@@ -106,11 +106,11 @@ kinds_itself [] = refl
 kinds_itself (t ∷ ts) = rw (same_itself t) (kinds_itself ts)
 
 -- the Call ends it
-pub call_ends : (g : Given) (site : Option BodySite) (v : Verdict) (start old new : List Entry) → Adds g.door.caller old new (Call g.q g.key site g.args v) → Begun g start old
+pub call_ends : (g : Given) (site : Option BodySite) (v : Verdict) (start old new : List Entry) → Adds g.door.caller old new (Call g.key g.q site g.args v) → Begun g start old
     → (made : List Act) × (acts g.door.caller new ≡ acts g.door.caller start ++ made) × ((l : List Act) → call_of g.t g.q.0 g.key.0 (kinds_of g.args) (made ++ l) ≡ called g.q.0 site v (stands g.door.caller g.q.0 new) l)
 call_ends g site v start old new adds b =
     let c = g.door.caller in let q = g.q in let key = g.key in let kinds = kinds_of g.args in
-    let a : Act = Call q key site g.args v in
+    let a : Act = Call key q site g.args v in
     let same = adds_apart c q.0 old new a adds refl in (
       b.made ++ a ∷ [],
       adds_act c old new a adds ∙ ap (λ w. w ++ a ∷ []) b.grows ∙ append_assoc (acts c start) b.made (a ∷ []),

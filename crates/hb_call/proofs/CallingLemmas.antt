@@ -84,18 +84,18 @@ below_last [] key h low = (low, tt)
 below_last (k ∷ held) key h low = (h.0, below_last held key h.1 low)
 
 -- what stands behind a Hold
-pub hold_stands : (c : ℕ) (q : CallNo) (key : KeyId) (ty : Option TypeSite) (n : ℕ) (old new : List Entry) → Adds c old new (Hold q key ty n)
+pub hold_stands : (c : ℕ) (q : CallNo) (key : KeyId) (ty : Option TypeSite) (n : ℕ) (old new : List Entry) → Adds c old new (Hold key q ty n)
     → stands c q.0 new ≡ stands c q.0 old ++ record { key = key.0; ty = ty; changes = n } ∷ []
-hold_stands c q key ty n old new h = adds_stand c q.0 old new (Hold q key ty n) h ∙ ap (λ b. cond b (stands c q.0 old ++ record { key = key.0; ty = ty; changes = n } ∷ []) (stands c q.0 old)) (eq-eqb q.0 q.0 refl)
+hold_stands c q key ty n old new h = adds_stand c q.0 old new (Hold key q ty n) h ∙ ap (λ b. cond b (stands c q.0 old ++ record { key = key.0; ty = ty; changes = n } ∷ []) (stands c q.0 old)) (eq-eqb q.0 q.0 refl)
 
-pub hold_keys : (c : ℕ) (q : CallNo) (key : KeyId) (ty : Option TypeSite) (n : ℕ) (old new : List Entry) (held : List KeyId) → Adds c old new (Hold q key ty n)
+pub hold_keys : (c : ℕ) (q : CallNo) (key : KeyId) (ty : Option TypeSite) (n : ℕ) (old new : List Entry) (held : List KeyId) → Adds c old new (Hold key q ty n)
     → map (λ (h : Stand). h.key) (stands c q.0 old) ≡ map (λ (k : KeyId). k.0) held → map (λ (h : Stand). h.key) (stands c q.0 new) ≡ map (λ (k : KeyId). k.0) (held ++ key ∷ [])
 hold_keys c q key ty n old new held h e =
     ap (map (λ (h : Stand). h.key)) (hold_stands c q key ty n old new h) ∙ map-append (λ (h : Stand). h.key) (stands c q.0 old) (record { key = key.0; ty = ty; changes = n } ∷ [])
     ∙ ap (λ l. l ++ key.0 ∷ []) e ∙ sym (map-append (λ (k : KeyId). k.0) held (key ∷ []))
 
 -- behind a Hold of a key the call holds this one and those from before
-pub held_then : (c : ℕ) (q : CallNo) (key : KeyId) (ty : Option TypeSite) (n : ℕ) (old new : List Entry) (k : ℕ) → Adds c old new (Hold q key ty n) → times (c, q.0) (spot k new).calls ≡ 1
+pub held_then : (c : ℕ) (q : CallNo) (key : KeyId) (ty : Option TypeSite) (n : ℕ) (old new : List Entry) (k : ℕ) → Adds c old new (Hold key q ty n) → times (c, q.0) (spot k new).calls ≡ 1
     → (k ≡ key.0) ⊎ (times (c, q.0) (spot k old).calls ≡ 1)
 held_then c q key ty n old new k h one = go (eqb k key.0) refl
   where
@@ -149,16 +149,16 @@ module _ (t : Table) (door : Fixed) (q : CallNo) (names asked : List Name) (log 
     whole = h.whole;
   }
 
-  pub holding : (new : List Entry) (j : KeyId) (found : Held) (a : Answer) → Adds door.caller log new (Hold q j found.ty found.changes) → IsLegal door.limit new
+  pub holding : (new : List Entry) (j : KeyId) (found : Held) (a : Answer) → Adds door.caller log new (Hold j q found.ty found.changes) → IsLegal door.limit new
       → times (door.caller, q.0) (spot j.0 log).calls ≡ 0 → j.0 < NAMES_MAX
       → IsAskedFor names asked j.0 → a.key ≡ j → a.held ≡ found → place names (name_of t (a.class.0, a.name.0)) ≡ Some a.key.0 → IsCalling t door q.0 names asked new key own (held ++ j ∷ []) (answers ++ a ∷ [])
   holding new j found a adds legal none low asks same site named =
       let ty = found.ty in let n = found.changes in
       let c = door.caller in
-      let rest : List Entry = adds.0 ++ entry c (Hold q j ty n) ∷ [] in
-      let is : log ++ rest ≡ new = sym (append_assoc log adds.0 (entry c (Hold q j ty n) ∷ [])) ∙ sym adds.1 in
+      let rest : List Entry = adds.0 ++ entry c (Hold j q ty n) ∷ [] in
+      let is : log ++ rest ≡ new = sym (append_assoc log adds.0 (entry c (Hold j q ty n) ∷ [])) ∙ sym adds.1 in
       let legal2 : IsLegal door.limit (log ++ rest) = subst (IsLegal door.limit) (sym is) legal in
-      let keeps : (k : ℕ) → KeepsHold q.0 k (acts c rest) = λ k. subst (KeepsHold q.0 k) (sym (acts_last c adds.0 (Hold q j ty n) adds.2)) (refl, tt) in
+      let keeps : (k : ℕ) → KeepsHold q.0 k (acts c rest) = λ k. subst (KeepsHold q.0 k) (sym (acts_last c adds.0 (Hold j q ty n) adds.2)) (refl, tt) in
       let finds = hold_finds door.limit c q j ty n log new adds legal in let typed : HasType new (c, q.0) j.0 found = (held_after c log new q j ty n adds none, finds.0, finds.1) in
       record {
         legal = legal;

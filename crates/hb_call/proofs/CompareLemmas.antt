@@ -108,22 +108,22 @@ module _ (g : Given) (known asked : List Name) (log : List Entry) (held : List K
   pub compared_held : times (g.door.caller, g.q.0) (spot s.key.0 log).calls ≡ 1 → IsCalling g.t g.door g.q.0 known asked log g.key g.own held (take i (answers_kept kept) ++ the_answer ∷ [])
   compared_held one = noted g.t g.door g.q known asked log g.key g.own held (take i (answers_kept kept)) h the_answer the_named (held_so one)
 
-  pub goes_compared : (new : List Entry) (found : Held) → Adds g.door.caller log new (Hold g.q s.key found.ty found.changes) → IsLegal g.door.limit new → Goes g (at known asked log) (at known asked new)
+  pub goes_compared : (new : List Entry) (found : Held) → Adds g.door.caller log new (Hold s.key g.q found.ty found.changes) → IsLegal g.door.limit new → Goes g (at known asked log) (at known asked new)
   goes_compared new found adds legal =
       subst (λ (m : List Name). Goes g (at known asked log) (at known m new)) (asked_again known asked (name_of g.t (key_of the.u)) s.key.0 the.fits.asked_for the_named)
       (goes_hold g known asked known log new (name_of g.t (key_of the.u)) s.key found.ty found.changes the_named adds legal)
 
-  pub compared_hold : (new : List Entry) (found : Held) → Adds g.door.caller log new (Hold g.q s.key found.ty found.changes) → IsLegal g.door.limit new
+  pub compared_hold : (new : List Entry) (found : Held) → Adds g.door.caller log new (Hold s.key g.q found.ty found.changes) → IsLegal g.door.limit new
       → times (g.door.caller, g.q.0) (spot s.key.0 log).calls ≡ 0 → s.key.0 < NAMES_MAX
       → IsCalling g.t g.door g.q.0 known asked new g.key g.own (held ++ s.key ∷ []) (take i (answers_kept kept) ++ record the_answer { held = found } ∷ [])
   compared_hold new found adds legal none low = holding g.t g.door g.q known asked log g.key g.own held (take i (answers_kept kept)) h new s.key found
       (record the_answer { held = found }) adds legal none low the.fits.asked_for refl refl the_named
 
   -- the count is as it was, and so is the type
-  pub found_same : (new : List Entry) (found : Held) → Adds g.door.caller log new (Hold g.q s.key found.ty found.changes) → IsLegal g.door.limit new → found.changes ≡ s.changes → found ≡ the_answer.held
+  pub found_same : (new : List Entry) (found : Held) → Adds g.door.caller log new (Hold s.key g.q found.ty found.changes) → IsLegal g.door.limit new → found.changes ≡ s.changes → found ≡ the_answer.held
   found_same new found adds legal e =
       let finds = hold_finds g.door.limit g.door.caller g.q s.key found.ty found.changes log new adds legal in
-      let was = seen_on s.key s.changes s.site log new (adds_prefix g.door.caller log new (Hold g.q s.key found.ty found.changes) adds) the.fits.was in
+      let was = seen_on s.key s.changes s.site log new (adds_prefix g.door.caller log new (Hold s.key g.q found.ty found.changes) adds) the.fits.was in
       same_held found the_answer.held (finds.0 ∙ seen_now g.door.limit s.key s.changes s.site new legal was (sym finds.1 ∙ e)) e
 
   pub the_low : length known ≤ NAMES_MAX → s.key.0 < NAMES_MAX
@@ -139,7 +139,7 @@ module _ (g : Given) (known asked : List Name) (log : List Entry) (held : List K
     other = tt;
   }
 
-  module _ (new : List Entry) (found : Held) (adds : Adds g.door.caller log new (Hold g.q s.key found.ty found.changes)) (legal : IsLegal g.door.limit new)
+  module _ (new : List Entry) (found : Held) (adds : Adds g.door.caller log new (Hold s.key g.q found.ty found.changes)) (legal : IsLegal g.door.limit new)
       (none : times (g.door.caller, g.q.0) (spot s.key.0 log).calls ≡ 0) (few : length known ≤ NAMES_MAX) where
     other_calling : IsCalling g.t g.door g.q.0 known asked new g.key g.own (held ++ s.key ∷ []) (take i (answers_kept kept) ++ record the_answer { held = found } ∷ [])
     other_calling = compared_hold new found adds legal none (the_low few)

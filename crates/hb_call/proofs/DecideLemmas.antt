@@ -45,10 +45,10 @@ pub own_below : (c q : ℕ) (key : KeyId) (others held : List KeyId) (log : List
 own_below c q key others held log first h = (subst (λ (l : List KeyId). AllByRecursion (λ (k : KeyId). k.0 < NAMES_MAX) l) first h.below).0
 
 module _ (g : Given) (names asked : List Name) (log : List Entry) (held : List KeyId) (answers : List Answer) (h : IsCalling g.t g.door g.q.0 names asked log g.key g.own held answers)
-    (new : List Entry) (site : Option BodySite) (v : Verdict) (between : List Entry) (is : new ≡ (log ++ between) ++ entry g.door.caller (Call g.q g.key site g.args v) ∷ []) (none : journal g.door.caller between ≡ []) (legal : IsLegal g.door.limit new) where
+    (new : List Entry) (site : Option BodySite) (v : Verdict) (between : List Entry) (is : new ≡ (log ++ between) ++ entry g.door.caller (Call g.key g.q site g.args v) ∷ []) (none : journal g.door.caller between ≡ []) (legal : IsLegal g.door.limit new) where
   pub call_holds : Holds g.door.caller g.q.0 held new
   call_holds = record {
-    keys = ap (map (λ (s : Stand). s.key)) (adds_apart g.door.caller g.q.0 log new (Call g.q g.key site g.args v) (between, is, none) refl) ∙ h.holds.keys;
+    keys = ap (map (λ (s : Stand). s.key)) (adds_apart g.door.caller g.q.0 log new (Call g.key g.q site g.args v) (between, is, none) refl) ∙ h.holds.keys;
     once = held_once g.door.limit g.door.caller g.q.0 new legal;
     below = h.holds.below;
   }
@@ -56,7 +56,7 @@ module _ (g : Given) (names asked : List Name) (log : List Entry) (held : List K
   pub call_whole : IsWhole g.door.caller g.q.0 (log ++ between)
   call_whole =
       let here = log ++ between in
-      let low = legal_prefix g.door.limit here new (entry g.door.caller (Call g.q g.key site g.args v) ∷ [], sym is) legal in
+      let low = legal_prefix g.door.limit here new (entry g.door.caller (Call g.key g.q site g.args v) ∷ [], sym is) legal in
       (learned g.t g.door g.q names asked log g.key g.own held answers h here (between, refl, none) low).whole
 
   pub call_decided : (v ≡ verdict.Enter by.Shared → ⊥) → IsDecided g.t names (log ++ between) (g.door.caller, g.q.0) g.key.0 site (kinds_of g.args) v
@@ -70,7 +70,7 @@ module _ (g : Given) (names asked : List Name) (log : List Entry) (held : List K
   }
 
 -- a call that went on so far is decided with this entry
-module _ (g h : Given) (same : g ≡ h) (was : Moment) (known asked : List Name) (log new : List Entry) (site : Option BodySite) (v : Verdict) (adds : Adds h.door.caller log new (Call h.q h.key site h.args v)) where
+module _ (g h : Given) (same : g ≡ h) (was : Moment) (known asked : List Name) (log new : List Entry) (site : Option BodySite) (v : Verdict) (adds : Adds h.door.caller log new (Call h.key h.q site h.args v)) where
   pub decided_went : Went g was (at known asked log) → IsLegal h.door.limit new → Went g was (at known asked new)
   decided_went went legal = went_on g was (at known asked log) (at known asked new) went (subst (λ (x : Given). Went x (at known asked log) (at known asked new)) (sym same) (went_call h known asked log new site v adds legal))
 
@@ -82,5 +82,5 @@ module _ (g h : Given) (same : g ≡ h) (was : Moment) (known asked : List Name)
   -- and each check by which a body is entered is the right one
   pub decided_ways : (past : List Act) → Goes g was (at known asked log) → EachNew (EntersBy h.door.caller past) h.door.caller log new → EachNew (EntersBy g.door.caller past) g.door.caller was.log new
   decided_ways past goes ways =
-      let kept = adds_prefix h.door.caller log new (Call h.q h.key site h.args v) adds in
+      let kept = adds_prefix h.door.caller log new (Call h.key h.q site h.args v) adds in
       each_on (EntersBy g.door.caller past) g.door.caller was.log log new kept (goes_ways g past was (at known asked log) goes) (subst (λ (x : Given). EachNew (EntersBy x.door.caller past) x.door.caller log new) (sym same) ways)

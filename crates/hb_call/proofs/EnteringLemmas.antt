@@ -71,8 +71,8 @@ freed_all q (h ∷ hs) (key ∷ keys) l e =
 full_read : (q : CallNo) (key : KeyId) (kinds : List Ty) (hs : List Stand) (others : List KeyId) (l : List Act) → map (λ (h : Stand). h.key) hs ≡ map (λ (k : KeyId). k.0) (key ∷ others) → decision true q.0 key.0 kinds hs (frees q (key ∷ others) ++ l) ≡ FullAt l
 full_read q key kinds hs others l e =
     let one = eq-eqb q.0 q.0 refl in let two = eq-eqb key.0 key.0 refl in let acts = frees q others ++ l in
-    ap (λ (b : Bool). cond b (cond (eqb key.0 key.0) (full_at (freed q.0 hs (Free q key ∷ acts))) (decision true q.0 key.0 kinds (all_but key.0 hs) acts)) Lost) one
-    ∙ ap (λ (b : Bool). cond b (full_at (freed q.0 hs (Free q key ∷ acts))) (decision true q.0 key.0 kinds (all_but key.0 hs) acts)) two
+    ap (λ (b : Bool). cond b (cond (eqb key.0 key.0) (full_at (freed q.0 hs (Free key q ∷ acts))) (decision true q.0 key.0 kinds (all_but key.0 hs) acts)) Lost) one
+    ∙ ap (λ (b : Bool). cond b (full_at (freed q.0 hs (Free key q ∷ acts))) (decision true q.0 key.0 kinds (all_but key.0 hs) acts)) two
     ∙ ap full_at (freed_all q hs (key ∷ others) l e)
 
 pub gave_up : (g h : Given) (names : List Name) (old mid new : List Entry) (held others : List KeyId) → g ≡ h → held ≡ h.key ∷ others → IsFullFor h names fail.Full → Holds h.door.caller h.q.0 held mid → acts h.door.caller new ≡ acts h.door.caller mid ++ frees h.q held

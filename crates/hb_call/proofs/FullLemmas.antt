@@ -114,20 +114,20 @@ full_frees t names limit c q key others mid new full one legal is =
     go [] ys a before e from to none =
         let low = legal_prefix limit (mid ++ from.0) new (to.0, ap (λ w. w ++ to.0) from.1 ∙ to.1) legal in
         let here = subst (IsFullRightly t names c q key) from.1 (full_later t names limit c q key mid from.0 low none one full) in
-        let act : Free q key ≡ a = cc e in
+        let act : Free key q ≡ a = cc e in
         subst (FitsRules t names c before) act (record { row = tt; hold = tt; free = inr (inr (inl here)); whole = tt; named = tt })
     go (x ∷ xs) ys a before e from to more =
-        let act : Free q key ≡ x = cc e in let rest : frees q others ≡ xs ++ a ∷ ys = cc e in
-        let cut = acts_cut c from.0 [] (Free q key) xs (more ∙ ap (λ y. y ∷ xs) (sym act)) in
+        let act : Free key q ≡ x = cc e in let rest : frees q others ≡ xs ++ a ∷ ys = cc e in
+        let cut = acts_cut c from.0 [] (Free key q) xs (more ∙ ap (λ y. y ∷ xs) (sym act)) in
         let at = mid ++ cut.before in
         let began : Began c q key full.next.start at = subst (λ (k : KeyId). Began c q k full.next.start at) full.own (began_on c q full.next.key full.next.start mid cut.before full.next.began (subst (KeepsHold q.0 full.next.key.0) (sym cut.first) tt)) in
-        let gives : GivesUp c q before = record { key = key; start = full.next.start; at = at; began = began; since = cut.after; is = sym from.1 ∙ ap (λ w. mid ++ w) cut.is ∙ sym (append_assoc mid cut.before (entry c (Free q key) ∷ cut.after)) } in
+        let gives : GivesUp c q before = record { key = key; start = full.next.start; at = at; began = began; since = cut.after; is = sym from.1 ∙ ap (λ w. mid ++ w) cut.is ∙ sym (append_assoc mid cut.before (entry c (Free key q) ∷ cut.after)) } in
         behind q others xs ys a before rest gives
       where
         behind : (q : CallNo) (others : List KeyId) (xs ys : List Act) (a : Act) (before : List Entry) → frees q others ≡ xs ++ a ∷ ys → GivesUp c q before → FitsRules t names c before a
         behind q [] [] ys a before e gives = absurd (cc e)
         behind q [] (x ∷ xs) ys a before e gives = absurd (cc e)
-        behind q (j ∷ others) [] ys a before e gives = let act : Free q j ≡ a = cc e in subst (FitsRules t names c before) act (record { row = tt; hold = tt; free = inr (inr (inr gives)); whole = tt; named = tt })
+        behind q (j ∷ others) [] ys a before e gives = let act : Free j q ≡ a = cc e in subst (FitsRules t names c before) act (record { row = tt; hold = tt; free = inr (inr (inr gives)); whole = tt; named = tt })
         behind q (j ∷ others) (x ∷ xs) ys a before e gives = behind q others xs ys a before (cc e) gives
 
 -- a call holds its own key

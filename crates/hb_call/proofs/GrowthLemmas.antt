@@ -109,19 +109,19 @@ others_frees c p q old new keys is other = ap (standing p) is ∙ standing_appen
 
 gives_append : (q : ℕ) (going : Bool) (l m : List Act) → gives q going (l ++ m) ≡ gives q (gives q going l) m
 gives_append q going [] m = refl
-gives_append q going (Hold p key ty changes ∷ l) m = gives_append q (cond (eqb q p.0) false going) l m
-gives_append q going (Free p key ∷ l) m = gives_append q (cond (eqb q p.0) true going) l m
+gives_append q going (Hold key p ty changes ∷ l) m = gives_append q (cond (eqb q p.0) false going) l m
+gives_append q going (Free key p ∷ l) m = gives_append q (cond (eqb q p.0) true going) l m
 gives_append q going (Retype key site ∷ l) m = gives_append q going l m
 gives_append q going (Busy key pins ∷ l) m = gives_append q going l m
 gives_append q going (WornType key ∷ l) m = gives_append q going l m
 gives_append q going (Define key site ∷ l) m = gives_append q going l m
 gives_append q going (WornDef key ∷ l) m = gives_append q going l m
-gives_append q going (Call p key site args v ∷ l) m = gives_append q going l m
+gives_append q going (Call key p site args v ∷ l) m = gives_append q going l m
 
 -- the last part of a call is a Hold
-pub whole_hold : (c : ℕ) (q : CallNo) (key : KeyId) (ty : Option TypeSite) (n : ℕ) (old new : List Entry) → Adds c old new (Hold q key ty n) → IsWhole c q.0 new
+pub whole_hold : (c : ℕ) (q : CallNo) (key : KeyId) (ty : Option TypeSite) (n : ℕ) (old new : List Entry) → Adds c old new (Hold key q ty n) → IsWhole c q.0 new
 whole_hold c q key ty n old new adds gave =
-    let a = ap (gives q.0 false) (adds_act c old new (Hold q key ty n) adds) ∙ gives_append q.0 false (acts c old) (Hold q key ty n ∷ []) ∙ ap (λ b. cond b false (gives q.0 false (acts c old))) (eq-eqb q.0 q.0 refl) in absurd (cc)
+    let a = ap (gives q.0 false) (adds_act c old new (Hold key q ty n) adds) ∙ gives_append q.0 false (acts c old) (Hold key q ty n ∷ []) ∙ ap (λ b. cond b false (gives q.0 false (acts c old))) (eq-eqb q.0 q.0 refl) in absurd (cc)
 
 pub whole_same : (c q : ℕ) (old new : List Entry) → acts c new ≡ acts c old → IsWhole c q old → IsWhole c q new
 whole_same c q old new same h gave = let o = h (ap (gives q false) (sym same) ∙ gave) in (o.0, ap (standing q) same ∙ o.1)
@@ -149,7 +149,7 @@ pub frees_after : (names asked : List Name) (q : CallNo) (keys : List KeyId) →
 frees_after names asked q [] = refl
 frees_after names asked q (key ∷ keys) = frees_after names asked q keys
 
-frees_in : (q : CallNo) (keys : List KeyId) (xs ys : List Act) (a : Act) → frees q keys ≡ xs ++ a ∷ ys → (key : KeyId) × (Free q key ≡ a)
+frees_in : (q : CallNo) (keys : List KeyId) (xs ys : List Act) (a : Act) → frees q keys ≡ xs ++ a ∷ ys → (key : KeyId) × (Free key q ≡ a)
 frees_in q [] xs ys a e = absurd (empty_not xs ys a e)
 frees_in q (key ∷ keys) [] ys a e = (key, cc e)
 frees_in q (key ∷ keys) (x ∷ xs) ys a e = frees_in q keys xs ys a (cc e)
@@ -157,7 +157,7 @@ frees_in q (key ∷ keys) (x ∷ xs) ys a e = frees_in q keys xs ys a (cc e)
 abbrev pub grows_frees : (c : ℕ) (known asked : List Name) (q : CallNo) (keys : List KeyId) (old new : List Entry) → IsPrefix old new → acts c new ≡ acts c old ++ frees q keys → Grows c known asked asked old new
 grows_frees c known asked q keys old new kept is = record { made = frees q keys; grows = is; kept = kept; names = λ names p. sym (frees_after names asked q keys) }
 
-pub each_frees : (F : List Entry → Act → Type 0) (c : ℕ) (q : CallNo) (keys : List KeyId) (old new : List Entry) → acts c new ≡ acts c old ++ frees q keys → ((before : List Entry) (key : KeyId) → IsPrefix old before → F before (Free q key)) → EachNew F c old new
+pub each_frees : (F : List Entry → Act → Type 0) (c : ℕ) (q : CallNo) (keys : List KeyId) (old new : List Entry) → acts c new ≡ acts c old ++ frees q keys → ((before : List Entry) (key : KeyId) → IsPrefix old before → F before (Free key q)) → EachNew F c old new
 each_frees F c q keys old new is fits = each_made F c old new (frees q keys) is (λ xs ys a before e from to past. let f = frees_in q keys xs ys a e in subst (F before) f.1 (fits before f.0 from))
 
 -- what a call gives back behind its Call fits the rules

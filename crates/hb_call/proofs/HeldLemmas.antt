@@ -11,15 +11,15 @@ use Rattle.hb_tables.specs.Standing.{Stand, all_but, standing_from, standing, co
 use Rattle.hb_tables.proofs.{DeskLemmas.adds_stand, DeskLemmas.adds_prefix, FrontLemmas.adds_act, StandingLemmas.standing_append}
 use Rattle.hb_call.specs.Held.{stands, Holds, frees, MayFree}
 
-pub frees_drop : (q : CallNo) (keys : List KeyId) (i : ℕ) (d : KeyId) → i < length keys → frees q (drop i keys) ≡ Free q (get_or keys i d) ∷ frees q (drop (i + 1) keys)
+pub frees_drop : (q : CallNo) (keys : List KeyId) (i : ℕ) (d : KeyId) → i < length keys → frees q (drop i keys) ≡ Free (get_or keys i d) q ∷ frees q (drop (i + 1) keys)
 frees_drop q keys i d h = ap (frees q) (drop-cons keys i d h ∙ ap (λ n. get_or keys i d ∷ drop n keys) (sym (add-one i)))
 
 pub may_drop : (keys : List KeyId) (i : ℕ) (d : KeyId) (hs : List Stand) → i < length keys → MayFree (drop i keys) hs → MayFree (get_or keys i d ∷ drop (i + 1) keys) hs
 may_drop keys i d hs h = subst (λ (l : List KeyId). MayFree l hs) (drop-cons keys i d h ∙ ap (λ n. get_or keys i d ∷ drop n keys) (sym (add-one i)))
 
 -- what stands behind a Free
-pub free_stands : (c : ℕ) (q : CallNo) (key : KeyId) (old new : List Entry) → Adds c old new (Free q key) → stands c q.0 new ≡ all_but key.0 (stands c q.0 old)
-free_stands c q key old new h = adds_stand c q.0 old new (Free q key) h ∙ ap (λ b. cond b (all_but key.0 (stands c q.0 old)) (stands c q.0 old)) (eq-eqb q.0 q.0 refl)
+pub free_stands : (c : ℕ) (q : CallNo) (key : KeyId) (old new : List Entry) → Adds c old new (Free key q) → stands c q.0 new ≡ all_but key.0 (stands c q.0 old)
+free_stands c q key old new h = adds_stand c q.0 old new (Free key q) h ∙ ap (λ b. cond b (all_but key.0 (stands c q.0 old)) (stands c q.0 old)) (eq-eqb q.0 q.0 refl)
 
 pub count_head : (k : ℕ) (hs : List Stand) (h : Stand) → k ≡ h.key → count_of k (h ∷ hs) ≡ 1 + count_of k hs
 count_head k hs h is = ap (λ b. cond b 1 0 + count_of k hs) (eq-eqb k h.key is)
@@ -83,10 +83,10 @@ freed_stands q kept (h ∷ hs) (key ∷ keys) e once =
     ∙ freed_stands q kept hs keys p.1 (λ k. less k kept hs h (once k))
 
 -- one key more is freed
-pub free_next : (c : ℕ) (q : CallNo) (keys : List KeyId) (i : ℕ) (d : KeyId) (old new : List Entry) (all : List Act) → i < length keys → Adds c old new (Free q (get_or keys i d))
+pub free_next : (c : ℕ) (q : CallNo) (keys : List KeyId) (i : ℕ) (d : KeyId) (old new : List Entry) (all : List Act) → i < length keys → Adds c old new (Free (get_or keys i d) q)
     → acts c old ++ frees q (drop i keys) ≡ all → acts c new ++ frees q (drop (i + 1) keys) ≡ all
 free_next c q keys i d old new all h adds e =
-    ap (λ w. w ++ frees q (drop (i + 1) keys)) (adds_act c old new (Free q (get_or keys i d)) adds) ∙ append_assoc (acts c old) (Free q (get_or keys i d) ∷ []) (frees q (drop (i + 1) keys))
+    ap (λ w. w ++ frees q (drop (i + 1) keys)) (adds_act c old new (Free (get_or keys i d) q) adds) ∙ append_assoc (acts c old) (Free (get_or keys i d) q ∷ []) (frees q (drop (i + 1) keys))
     ∙ ap (λ w. acts c old ++ w) (sym (frees_drop q keys i d h)) ∙ e
 
 pub all_stand : (c : ℕ) (q : CallNo) (keys : List KeyId) (log : List Entry) → Holds c q.0 keys log → MayFree keys (stands c q.0 log)

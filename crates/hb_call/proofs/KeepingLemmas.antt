@@ -84,7 +84,7 @@ pub kept_true : (g : Given) (known asked : List Name) (log end : List Entry) (an
     → (new ≡ old) ⊎ IsPut f.key own answers d old new → IsTrueCache g.t known asked g.door.caller end new
 kept_true g known asked log end answers own old new f d same cache goes h (inl left) =
     let r = h.3 in
-    let behind : IsPrefix r.before log = (entry g.door.caller (Call g.q g.key (Some d.body) g.args (verdict.Enter by.Fresh)) ∷ [], sym r.is) in
+    let behind : IsPrefix r.before log = (entry g.door.caller (Call g.key g.q (Some d.body) g.args (verdict.Enter by.Fresh)) ∷ [], sym r.is) in
     true_on g.t known known asked asked g.door.caller r.before end new (prefix_itself known) (prefix_itself asked) (prefix_more r.before log end behind goes)
     (subst (λ (c : List (Option Kept)). IsTrueCache g.t known asked g.door.caller r.before c) (cache ∙ sym left) r.kept)
 kept_true g known asked log end answers own old new f d same cache goes h (inr p) =

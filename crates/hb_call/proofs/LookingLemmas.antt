@@ -66,7 +66,7 @@ asking_key g known longer asked more old new key own held compared answers a h n
     subst (λ (l : List Entry). IsAsking g (at known asked old) (at longer more l) answers (answers ++ a ∷ [])) (sym same.0)
     (record { more = a ∷ []; grows = refl; holds = each_itself (HoldsAnswer g.t longer g.door.caller g.q (answers ++ a ∷ [])) g.door.caller old })
 asking_key g known longer asked more old new key own held compared answers a h named (inr adds) legal =
-    let c = g.door.caller in let act : Act = Hold g.q a.key a.held.ty a.held.changes in let here = old ++ adds.0 in
+    let c = g.door.caller in let act : Act = Hold a.key g.q a.held.ty a.held.changes in let here = old ++ adds.0 in
     let low = legal_prefix g.door.limit here new (entry c act ∷ [], sym adds.1) legal in
     let calling = learned g.t g.door g.q longer more old key own held (compared ++ answers) h here (adds.0, refl, adds.2) low in
     record {

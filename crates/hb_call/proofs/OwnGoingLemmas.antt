@@ -27,8 +27,8 @@ use Rattle.hb_call.proofs.GrowthLemmas.{each_frees, each_made}
 -- holds and frees leave what is kept
 pub parts_leave : (q : CallNo) (l : List Act) → AreParts q l → LeavesKept l
 parts_leave q [] h = tt
-parts_leave q (Hold p key ty changes ∷ l) h = (refl, parts_leave q l h.1)
-parts_leave q (Free p key ∷ l) h = (refl, parts_leave q l h.1)
+parts_leave q (Hold key p ty changes ∷ l) h = (refl, parts_leave q l h.1)
+parts_leave q (Free key p ∷ l) h = (refl, parts_leave q l h.1)
 parts_leave _ _ h = absurd h.0
 
 pub frees_leave : (q : CallNo) (keys : List KeyId) → LeavesKept (frees q keys)
@@ -44,8 +44,8 @@ part_at q [] ys a h = h.0
 part_at q (x ∷ xs) ys a h = part_at q xs ys a h.1
 
 part_enters : (c : ℕ) (past : List Act) (q : CallNo) (before : List Entry) (a : Act) → IsPart q a → EntersBy c past before a
-part_enters c past q before (Hold p key ty changes) h = tt
-part_enters c past q before (Free p key) h = tt
+part_enters c past q before (Hold key p ty changes) h = tt
+part_enters c past q before (Free key p) h = tt
 part_enters _ _ _ _ _ h = absurd h
 
 -- and enters no body
@@ -70,12 +70,12 @@ frees_keep t c names asked q keys old new cache kept is = record {
 -- ── names that were asked for before ──
 
 stands_on : (q k : ℕ) (hs : List Stand) (a : Act) → frees_by q a ≡ false → 1 ≤ count_of k hs → 1 ≤ count_of k (stand_done q hs a)
-stands_on q k hs (Hold p key ty changes) live some = by (eqb q p.0)
+stands_on q k hs (Hold key p ty changes) live some = by (eqb q p.0)
   where
     by : (b : Bool) → 1 ≤ count_of k (cond b (hs ++ record { key = key.0; ty = ty; changes = changes } ∷ []) hs)
     by true = let n = count_last k hs (record { key = key.0; ty = ty; changes = changes }) in omega (arith, n, some)
     by false = some
-stands_on q k hs (Free p key) live some = rw live some
+stands_on q k hs (Free key p) live some = rw live some
 stands_on _ _ _ _ _ some = some
 
 -- what stands does so while the call frees nothing
@@ -83,7 +83,7 @@ stands_live : (q k : ℕ) (hs : List Stand) (l : List Act) → StaysLive q l →
 stands_live q k hs [] live some = some
 stands_live q k hs (a ∷ l) live some = stands_live q k (stand_done q hs a) l live.1 (stands_on q k hs a live.0 some)
 
-stands_held : (q p : CallNo) (key : KeyId) (ty : Option TypeSite) (changes : ℕ) (hs : List Stand) → p ≡ q → 1 ≤ count_of key.0 (stand_done q.0 hs (Hold p key ty changes))
+stands_held : (q p : CallNo) (key : KeyId) (ty : Option TypeSite) (changes : ℕ) (hs : List Stand) → p ≡ q → 1 ≤ count_of key.0 (stand_done q.0 hs (Hold key p ty changes))
 stands_held q p key ty changes hs is =
     let here : Stand = record { key = key.0; ty = ty; changes = changes } in
     let n = count_last key.0 hs here in
@@ -94,9 +94,9 @@ stands_held q p key ty changes hs is =
 -- A call that frees nothing, and holds keys whose names were asked for, asks for nothing new.
 pub asked_live : (q : CallNo) (names asked : List Name) (hs : List Stand) (l : List Act) → AreParts q l → StaysLive q.0 l → ((k : ℕ) → 1 ≤ count_of k (standing_from q.0 hs l) → IsAskedFor names asked k) → asked_after names asked l ≡ asked
 asked_live q names asked hs [] parts live held = refl
-asked_live q names asked hs (Hold p key ty changes ∷ l) parts live held =
-    let hs2 = stand_done q.0 hs (Hold p key ty changes) in
+asked_live q names asked hs (Hold key p ty changes ∷ l) parts live held =
+    let hs2 = stand_done q.0 hs (Hold key p ty changes) in
     ap (λ w. asked_after names w l) (asked_already names asked key.0 (held key.0 (stands_live q.0 key.0 hs2 l live.1 (stands_held q p key ty changes hs parts.0))))
     ∙ asked_live q names asked hs2 l parts.1 live.1 held
-asked_live q names asked hs (Free p key ∷ l) parts live held = asked_live q names asked (stand_done q.0 hs (Free p key)) l parts.1 live.1 held
+asked_live q names asked hs (Free key p ∷ l) parts live held = asked_live q names asked (stand_done q.0 hs (Free key p)) l parts.1 live.1 held
 asked_live _ _ _ _ _ parts _ _ = absurd parts.0

@@ -89,39 +89,39 @@ module _ (limit c q : ℕ) where
       stay a legal h = still_on limit c q log (entry c a ∷ []) legal hs (on_while limit c q log (entry c a ∷ []) legal hs (λ k. keeps a k (h k)) few) all
 
       by : (a : Act) → IsLegal limit (log ++ entry c a ∷ []) → AllByRecursion (IsStill (log ++ entry c a ∷ [])) (stand_done q hs a)
-      by (Hold p key ty changes) legal = go (eqb q p.0)
+      by (Hold key p ty changes) legal = go (eqb q p.0)
         where
           here : Stand
           here = record { key = key.0; ty = ty; changes = changes }
 
-          is : spot key.0 (log ++ entry c (Hold p key ty changes) ∷ []) ≡ done c (spot key.0 log) (Hold p key ty changes)
-          is = spot_more key.0 log (entry c (Hold p key ty changes)) ∙ turn_here key.0 (spot key.0 log) (entry c (Hold p key ty changes)) refl
+          is : spot key.0 (log ++ entry c (Hold key p ty changes) ∷ []) ≡ done c (spot key.0 log) (Hold key p ty changes)
+          is = spot_more key.0 log (entry c (Hold key p ty changes)) ∙ turn_here key.0 (spot key.0 log) (entry c (Hold key p ty changes)) refl
 
-          found : IsStill (log ++ entry c (Hold p key ty changes) ∷ []) here
-          found = let f = legal log [] (entry c (Hold p key ty changes)) refl in (f.0 ∙ ap (λ (s : Spot). s.ty) (sym is), f.1 ∙ ap (λ (s : Spot). s.changes) (sym is))
+          found : IsStill (log ++ entry c (Hold key p ty changes) ∷ []) here
+          found = let f = legal log [] (entry c (Hold key p ty changes)) refl in (f.0 ∙ ap (λ (s : Spot). s.ty) (sym is), f.1 ∙ ap (λ (s : Spot). s.changes) (sym is))
 
-          go : (b : Bool) → AllByRecursion (IsStill (log ++ entry c (Hold p key ty changes) ∷ [])) (cond b (hs ++ here ∷ []) hs)
-          go true = still_last (log ++ entry c (Hold p key ty changes) ∷ []) hs here (stay (Hold p key ty changes) legal (λ k. refl)) found
-          go false = stay (Hold p key ty changes) legal (λ k. refl)
-      by (Free p key) legal = go (eqb q p.0) refl
+          go : (b : Bool) → AllByRecursion (IsStill (log ++ entry c (Hold key p ty changes) ∷ [])) (cond b (hs ++ here ∷ []) hs)
+          go true = still_last (log ++ entry c (Hold key p ty changes) ∷ []) hs here (stay (Hold key p ty changes) legal (λ k. refl)) found
+          go false = stay (Hold key p ty changes) legal (λ k. refl)
+      by (Free key p) legal = go (eqb q p.0) refl
         where
           new : List Entry
-          new = log ++ entry c (Free p key) ∷ []
+          new = log ++ entry c (Free key p) ∷ []
 
-          go : (b : Bool) → eqb q p.0 ≡ b → AllByRecursion (IsStill (log ++ entry c (Free p key) ∷ [])) (cond b (all_but key.0 hs) hs)
-          go true e = still_on limit c q log (entry c (Free p key) ∷ []) legal (all_but key.0 hs)
-              (on_but limit c q log (entry c (Free p key) ∷ []) legal key.0 hs (λ k ne. keeps (Free p key) k (ap (λ b. eqb q p.0 && b) ne ∙ no (eqb q p.0))) few) (still_but log key.0 hs all)
+          go : (b : Bool) → eqb q p.0 ≡ b → AllByRecursion (IsStill (log ++ entry c (Free key p) ∷ [])) (cond b (all_but key.0 hs) hs)
+          go true e = still_on limit c q log (entry c (Free key p) ∷ []) legal (all_but key.0 hs)
+              (on_but limit c q log (entry c (Free key p) ∷ []) legal key.0 hs (λ k ne. keeps (Free key p) k (ap (λ b. eqb q p.0 && b) ne ∙ no (eqb q p.0))) few) (still_but log key.0 hs all)
             where
               no : (b : Bool) → (b && false) ≡ false
               no true = refl
               no false = refl
-          go false e = stay (Free p key) legal (λ k. ap (λ b. b && eqb k key.0) e)
+          go false e = stay (Free key p) legal (λ k. ap (λ b. b && eqb k key.0) e)
       by (Retype key site) legal = stay (Retype key site) legal (λ k. refl)
       by (Busy key pins) legal = stay (Busy key pins) legal (λ k. refl)
       by (WornType key) legal = stay (WornType key) legal (λ k. refl)
       by (Define key site) legal = stay (Define key site) legal (λ k. refl)
       by (WornDef key) legal = stay (WornDef key) legal (λ k. refl)
-      by (Call p key site args v) legal = stay (Call p key site args v) legal (λ k. refl)
+      by (Call key p site args v) legal = stay (Call key p site args v) legal (λ k. refl)
 
   IsSo : List Entry → Type 0
   IsSo log = IsLegal limit log × AllByRecursion (IsStill log) (stands c q log)

@@ -83,10 +83,10 @@ site_of (Some s) site e = let p : s.0 ≡ site.0 = same_Some s.0 site.0 e in ap 
 seen_here : (limit c : ℕ) (q : CallNo) (key : KeyId) (site : Option TypeSite) (n : ℕ) (log : List Entry) → IsLegal limit log → times (c, q.0) (spot key.0 log).calls ≡ 1 → site ≡ (spot key.0 log).ty → n ≡ (spot key.0 log).changes → WasSeen key n site log
 seen_here limit c q key site n log legal one ty changes =
     let h = holds_since c q key log one in
-    let e : Entry = entry c (Hold q key h.ty h.changes) in
+    let e : Entry = entry c (Hold key q h.ty h.changes) in
     let start : List Entry = h.before ++ e ∷ [] in
     let goes : start ++ h.after ≡ log = append_assoc h.before (e ∷ []) h.after ∙ sym h.is in
-    let adds : Adds c h.before start (Hold q key h.ty h.changes) = ([], ap (λ w. w ++ e ∷ []) (sym (append-nil h.before)), refl) in
+    let adds : Adds c h.before start (Hold key q h.ty h.changes) = ([], ap (λ w. w ++ e ∷ []) (sym (append-nil h.before)), refl) in
     let finds = hold_finds limit c q key h.ty h.changes h.before start adds (legal_prefix limit start log (h.after, goes) legal) in
     let found : Held = record { ty = h.ty; changes = h.changes } in
     let typed : HasType start (c, q.0) key.0 found = (held_after c h.before start q key h.ty h.changes adds (legal h.before h.after e h.is).2, finds.0, finds.1) in
@@ -96,7 +96,7 @@ seen_here limit c q key site n log legal one ty changes =
       caller = c;
       call = q;
       after = h.after;
-      is = h.is ∙ ap (λ (o : Option TypeSite). h.before ++ entry c (Hold q key o h.changes) ∷ h.after) (stays.1 ∙ sym ty) ∙ ap (λ m. h.before ++ entry c (Hold q key site m) ∷ h.after) (stays.2 ∙ sym changes);
+      is = h.is ∙ ap (λ (o : Option TypeSite). h.before ++ entry c (Hold key q o h.changes) ∷ h.after) (stays.1 ∙ sym ty) ∙ ap (λ m. h.before ++ entry c (Hold key q site m) ∷ h.after) (stays.2 ∙ sym changes);
     }
 
 module _ (t : Table) (names asked_names : List Name) (log : List Entry) (x : ℕ × ℕ) where
@@ -190,19 +190,19 @@ module _ (g : Given) (past : Option (List Act)) (known asked_names : List Name) 
     once = once_held log x kept resting_holds;
   }
 
-  acts_new : acts c new ≡ acts c log ++ Call g.q g.key (Some d.body) g.args (verdict.Enter by.Fresh) ∷ []
+  acts_new : acts c new ≡ acts c log ++ Call g.key g.q (Some d.body) g.args (verdict.Enter by.Fresh) ∷ []
   acts_new =
       let e = eq-eqb c c refl in
-      let one : acts c (entry c (Call g.q g.key (Some d.body) g.args (verdict.Enter by.Fresh)) ∷ []) ≡ Call g.q g.key (Some d.body) g.args (verdict.Enter by.Fresh) ∷ [] = rw e refl in
-      ap (acts c) r.is ∙ acts_append c log (entry c (Call g.q g.key (Some d.body) g.args (verdict.Enter by.Fresh)) ∷ []) ∙ ap (λ w. acts c log ++ w) one
+      let one : acts c (entry c (Call g.key g.q (Some d.body) g.args (verdict.Enter by.Fresh)) ∷ []) ≡ Call g.key g.q (Some d.body) g.args (verdict.Enter by.Fresh) ∷ [] = rw e refl in
+      ap (acts c) r.is ∙ acts_append c log (entry c (Call g.key g.q (Some d.body) g.args (verdict.Enter by.Fresh)) ∷ []) ∙ ap (λ w. acts c log ++ w) one
 
   stands_new : stands c g.q.0 new ≡ stands c g.q.0 log
-  stands_new = ap (standing g.q.0) acts_new ∙ standing_append g.q.0 [] (acts c log) (Call g.q g.key (Some d.body) g.args (verdict.Enter by.Fresh) ∷ [])
+  stands_new = ap (standing g.q.0) acts_new ∙ standing_append g.q.0 [] (acts c log) (Call g.key g.q (Some d.body) g.args (verdict.Enter by.Fresh) ∷ [])
 
   -- behind the Call what is kept with it is the caller's own
   pub resting_own : (left : List (Option Kept)) → ((k : ℕ) → kept_at left k ≡ (if eqb kept.key.0 k then Some kept else kept_at g.cache k)) → IsOwnCache g.t known asked_names g.door.caller past new left
   resting_own left puts =
-      let goes : IsPrefix log new = (entry c (Call g.q g.key (Some d.body) g.args (verdict.Enter by.Fresh)) ∷ [], sym r.is) in
+      let goes : IsPrefix log new = (entry c (Call g.key g.q (Some d.body) g.args (verdict.Enter by.Fresh)) ∷ [], sym r.is) in
       own_put g.t known known asked_names asked_names c past log new g.cache (prefix_itself known) (prefix_itself asked_names) r.kept g.q g.key d.body g.args (verdict.Enter by.Fresh) kept left goes acts_new refl keyed
       (subst (λ (s : BodySite). SaysSame (item_of kept) (item_by (stands c g.q.0 log) s)) (ap (λ (z : Derivation). z.body) derived) (says_held g.door.limit c g.q.0 log kept r.calling.legal resting_holds))
       (check_on g.t known known asked_names asked_names log new (prefix_itself known) (prefix_itself asked_names) goes kept resting_true) puts

@@ -29,11 +29,11 @@ use Rattle.hb_call.proofs.StayLemmas.{hold_finds, type_stays}
 
 -- where the type does not take the arguments, no Hold and no Free is read
 nothing_past : (q k : ℕ) (kinds : List Ty) (held : List Stand) (p : CallNo) (a : Act) (l : List Act) → IsPart p a → decision false q k kinds held (a ∷ l) ≡ Lost
-nothing_past q k kinds held p (Hold r key ty n) l h = refl
-nothing_past q k kinds held p (Free r key) l h = refl
+nothing_past q k kinds held p (Hold key r ty n) l h = refl
+nothing_past q k kinds held p (Free key r) l h = refl
 nothing_past _ _ _ _ _ _ _ h = absurd h
 
-read_past : (t : Table) (q : CallNo) (key : KeyId) (ty : Option TypeSite) (n : ℕ) (kinds : List Ty) (a : Act) (l : List Act) → IsPart q a → (call_of t q.0 key.0 kinds (Hold q key ty n ∷ a ∷ l) ≡ Lost → ⊥) → takes_at t ty kinds ≡ true
+read_past : (t : Table) (q : CallNo) (key : KeyId) (ty : Option TypeSite) (n : ℕ) (kinds : List Ty) (a : Act) (l : List Act) → IsPart q a → (call_of t q.0 key.0 kinds (Hold key q ty n ∷ a ∷ l) ≡ Lost → ⊥) → takes_at t ty kinds ≡ true
 read_past t q key ty n kinds a l part some = by (takes_at t ty kinds) refl
   where
     first : List Stand
@@ -51,7 +51,7 @@ read_past t q key ty n kinds a l part some = by (takes_at t ty kinds) refl
 began_type : (limit c : ℕ) (q : CallNo) (key : KeyId) (start log : List Entry) (b : Began c q key start log) → IsLegal limit log → b.ty ≡ (spot key.0 log).ty
 began_type limit c q key start log b legal =
     let low : IsLegal limit start = legal_prefix limit start log (b.since, b.goes) legal in
-    let adds : Adds c b.before start (Hold q key b.ty b.changes) = ([], b.is ∙ ap (λ w. w ++ entry c (Hold q key b.ty b.changes) ∷ []) (sym (append-nil b.before)), refl) in
+    let adds : Adds c b.before start (Hold key q b.ty b.changes) = ([], b.is ∙ ap (λ w. w ++ entry c (Hold key q b.ty b.changes) ∷ []) (sym (append-nil b.before)), refl) in
     let finds = hold_finds limit c q key b.ty b.changes b.before start adds low in
     let found : Held = record { ty = b.ty; changes = b.changes } in
     let typed : HasType start (c, q.0) key.0 found = (held_after c b.before start q key b.ty b.changes adds (none_held c q.0 key.0 b.before b.none), finds.0, finds.1) in
@@ -62,7 +62,7 @@ typed_so None kinds h = absurd (cc h)
 typed_so (Some m) kinds h = (m, refl, h)
 
 pub past : (t : Table) (limit c : ℕ) (q : CallNo) (key : KeyId) (start log : List Entry) (b : Began c q key start log) (kinds : List Ty) (a : Act) (l : List Act) → IsLegal limit log
-    → IsPart q a → (call_of t q.0 key.0 kinds (Hold q key b.ty b.changes ∷ a ∷ l) ≡ Lost → ⊥) → (m : MethodTy) × (type_of_key t log key.0 ≡ Some m) × (takes m kinds ≡ true)
+    → IsPart q a → (call_of t q.0 key.0 kinds (Hold key q b.ty b.changes ∷ a ∷ l) ≡ Lost → ⊥) → (m : MethodTy) × (type_of_key t log key.0 ≡ Some m) × (takes m kinds ≡ true)
 past t limit c q key start log b kinds a l legal part some =
     let ty : takes_at t b.ty kinds ≡ typed_takes (type_of_key t log key.0) kinds = ap (λ (o : Option TypeSite). typed_takes (type_at (sites_of t) (option_map (λ (s : TypeSite). s.0) o)) kinds) (began_type limit c q key start log b legal) in
     typed_so (type_of_key t log key.0) kinds (sym ty ∙ read_past t q key b.ty b.changes kinds a l part some)

@@ -22,15 +22,15 @@ room_learns c q old between none room k =
 pub room_more : (c q : ℕ) (log : List Entry) (a : Act) → ((s : Spot) → Room c q s → Room c q (done c s a)) → HasRoom log c q → HasRoom (log ++ entry c a ∷ []) c q
 room_more c q log a one room k = spread k log (entry c a) (Room c q) (λ ne. room k) (λ is. one (spot (key_of a) log) (room (key_of a)))
 
-pub room_hold : (c : ℕ) (q : CallNo) (key : KeyId) (ty : Option TypeSite) (n : ℕ) (old new : List Entry) → Adds c old new (Hold q key ty n) → HasRoom old c q.0 → HasRoom new c q.0
+pub room_hold : (c : ℕ) (q : CallNo) (key : KeyId) (ty : Option TypeSite) (n : ℕ) (old new : List Entry) → Adds c old new (Hold key q ty n) → HasRoom old c q.0 → HasRoom new c q.0
 room_hold c q key ty n old new adds room =
-    subst (λ w. HasRoom w c q.0) (sym adds.1) (room_more c q.0 (old ++ adds.0) (Hold q key ty n)
+    subst (λ w. HasRoom w c q.0) (sym adds.1) (room_more c q.0 (old ++ adds.0) (Hold key q ty n)
     (λ s r. let a = eq-eqb c c refl in let b = eq-eqb q.0 q.0 refl in rw (a, b) (omega (arith, r)))
     (room_learns c q.0 old adds.0 adds.2 room))
 
-pub room_free : (c : ℕ) (q : CallNo) (key : KeyId) (old new : List Entry) → Adds c old new (Free q key) → HasRoom old c q.0 → HasRoom new c q.0
+pub room_free : (c : ℕ) (q : CallNo) (key : KeyId) (old new : List Entry) → Adds c old new (Free key q) → HasRoom old c q.0 → HasRoom new c q.0
 room_free c q key old new adds room =
-    subst (λ w. HasRoom w c q.0) (sym adds.1) (room_more c q.0 (old ++ adds.0) (Free q key)
+    subst (λ w. HasRoom w c q.0) (sym adds.1) (room_more c q.0 (old ++ adds.0) (Free key q)
     (λ s r. let a = ap length (own_without c q.0 s.calls) in let b = length_without (c, q.0) (of_caller c s.calls) in let d = times_own c q.0 s.calls in let z = none_without (c, q.0) s.calls in
     omega (arith, r, a, b, d, z))
     (room_learns c q.0 old adds.0 adds.2 room))

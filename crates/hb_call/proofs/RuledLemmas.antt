@@ -33,13 +33,13 @@ use Rattle.hb_call.proofs.DecidingLemmas.{learned, row_here}
 use Rattle.hb_call.proofs.NarrowLemmas.{narrow}
 
 module _ (g : Given) (known asked : List Name) (log : List Entry) (held : List KeyId) (compared answers : List Answer) (h : IsCalling g.t g.door g.q.0 known asked log g.key g.own held (compared ++ answers))
-    (new : List Entry) (site : Option BodySite) (v : Verdict) (between : List Entry) (is : new ≡ (log ++ between) ++ entry g.door.caller (Call g.q g.key site g.args v) ∷ []) (none : journal g.door.caller between ≡ []) (legal : IsLegal g.door.limit new)
+    (new : List Entry) (site : Option BodySite) (v : Verdict) (between : List Entry) (is : new ≡ (log ++ between) ++ entry g.door.caller (Call g.key g.q site g.args v) ∷ []) (none : journal g.door.caller between ≡ []) (legal : IsLegal g.door.limit new)
     (ruled : IsRuled g site compared answers v) (bytes : List ℕ) (named : place known (g.class.0, bytes) ≡ Some g.key.0) (defined : site ≡ (spot g.key.0 (log ++ between)).body) where
   abbrev here : List Entry
   here = log ++ between
 
   calling_here : IsCalling g.t g.door g.q.0 known asked here g.key g.own held (compared ++ answers)
-  calling_here = learned g.t g.door g.q known asked log g.key g.own held (compared ++ answers) h here (between, refl, none) (legal_prefix g.door.limit here new (entry g.door.caller (Call g.q g.key site g.args v) ∷ [], sym is) legal)
+  calling_here = learned g.t g.door g.q known asked log g.key g.own held (compared ++ answers) h here (between, refl, none) (legal_prefix g.door.limit here new (entry g.door.caller (Call g.key g.q site g.args v) ∷ [], sym is) legal)
 
   narrow_here : IsCalling g.t g.door g.q.0 known asked here g.key g.own held answers
   narrow_here = narrow g known asked here held compared answers calling_here site v ruled
@@ -51,22 +51,22 @@ module _ (g : Given) (known asked : List Name) (log : List Entry) (held : List K
   own_here : (past : Option (List Act)) → IsOwnCache g.t known asked g.door.caller past log g.cache → IsOwnCache g.t known asked g.door.caller past here g.cache
   own_here past own = own_stays g.t known known asked asked g.door.caller past log here g.cache (prefix_itself known) (prefix_itself asked) own [] (between, refl) (learns_acts g.door.caller log here (between, refl, none) ∙ sym (append-nil _)) tt
 
-  abbrev adds : Adds g.door.caller log new (Call g.q g.key site g.args v)
+  abbrev adds : Adds g.door.caller log new (Call g.key g.q site g.args v)
   adds = (between, is, none)
 
   -- and enters by the right check
   pub ruled_ways : (past : List Act) → IsOwnCache g.t known asked g.door.caller (Some past) log g.cache → EachNew (EntersBy g.door.caller past) g.door.caller log new
-  ruled_ways past own = each_adds (EntersBy g.door.caller past) g.door.caller log new (Call g.q g.key site g.args v) adds (ruled.way known asked past here (own_here (Some past) own) defined calling_here.own_is calling_here.answered)
+  ruled_ways past own = each_adds (EntersBy g.door.caller past) g.door.caller log new (Call g.key g.q site g.args v) adds (ruled.way known asked past here (own_here (Some past) own) defined calling_here.own_is calling_here.answered)
 
   own_call : (past : Option (List Act)) → IsOwnCache g.t known asked g.door.caller past log g.cache → brings v ≡ false → IsOwnCache g.t known asked g.door.caller past new g.cache
-  own_call past own old = own_stays g.t known known asked asked g.door.caller past log new g.cache (prefix_itself known) (prefix_itself asked) own (Call g.q g.key site g.args v ∷ []) (adds_prefix g.door.caller log new (Call g.q g.key site g.args v) adds) (adds_act g.door.caller log new (Call g.q g.key site g.args v) adds) (old, tt)
+  own_call past own old = own_stays g.t known known asked asked g.door.caller past log new g.cache (prefix_itself known) (prefix_itself asked) own (Call g.key g.q site g.args v ∷ []) (adds_prefix g.door.caller log new (Call g.key g.q site g.args v) adds) (adds_act g.door.caller log new (Call g.key g.q site g.args v) adds) (old, tt)
 
   -- what is kept is true, and its machine's own, behind the Call, or was before that of a fresh check
   pub ruled_own : (past : Option (List Act)) → IsOwnCache g.t known asked g.door.caller past log g.cache → (said : List Answer) (r : Ruling) → v ≡ verdict_by r → site ≡ site_by r → Shows g said answers r → IsOwnBehind g past known asked new held said (Ok r)
   ruled_own past own said (ruling.Kept body) e f shows = own_call past own (ap brings e)
   ruled_own past own said (ruling.Checked d) e f shows = record {
     before = here;
-    is = is ∙ ap (λ (o : Option BodySite). here ++ entry g.door.caller (Call g.q g.key o g.args v) ∷ []) f ∙ ap (λ (w : Verdict). here ++ entry g.door.caller (Call g.q g.key (Some d.body) g.args w) ∷ []) e;
+    is = is ∙ ap (λ (o : Option BodySite). here ++ entry g.door.caller (Call g.key g.q o g.args v) ∷ []) f ∙ ap (λ (w : Verdict). here ++ entry g.door.caller (Call g.key g.q (Some d.body) g.args w) ∷ []) e;
     named = (bytes, named);
     calling = subst (λ (l : List Answer). IsCalling g.t g.door g.q.0 known asked here g.key g.own held l) shows.0 narrow_here;
     shown = subst (λ (l : List Answer). IsShown g l d) shows.0 shows.1;

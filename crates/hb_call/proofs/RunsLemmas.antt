@@ -35,20 +35,20 @@ use Rattle.hb_call.proofs.LookingLemmas.{began_on}
 
 runs_none : (q : ℕ) (going : Bool) (m : List Act) → StaysLive q m → runs q going m ≡ 0
 runs_none q going [] h = refl
-runs_none q going (Hold p key ty changes ∷ m) h = elim (eqb q p.0) as (λ b. cond b (runs q false m) (runs q going m) ≡ 0) [ true ↦ runs_none q false m h.1 | false ↦ runs_none q going m h.1 ]
-runs_none q going (Free p key ∷ m) h = ap (λ b. cond b (cond going 0 1 + runs q true m) (runs q going m)) h.0 ∙ runs_none q going m h.1
+runs_none q going (Hold key p ty changes ∷ m) h = elim (eqb q p.0) as (λ b. cond b (runs q false m) (runs q going m) ≡ 0) [ true ↦ runs_none q false m h.1 | false ↦ runs_none q going m h.1 ]
+runs_none q going (Free key p ∷ m) h = ap (λ b. cond b (cond going 0 1 + runs q true m) (runs q going m)) h.0 ∙ runs_none q going m h.1
 runs_none q going (Retype key site ∷ m) h = runs_none q going m h.1
 runs_none q going (Busy key pins ∷ m) h = runs_none q going m h.1
 runs_none q going (WornType key ∷ m) h = runs_none q going m h.1
 runs_none q going (Define key site ∷ m) h = runs_none q going m h.1
 runs_none q going (WornDef key ∷ m) h = runs_none q going m h.1
-runs_none q going (Call p key site args v ∷ m) h = runs_none q going m h.1
+runs_none q going (Call key p site args v ∷ m) h = runs_none q going m h.1
 
 -- what comes behind adds at most so many runs
 runs_more : (q : ℕ) (going : Bool) (l m : List Act) (n : ℕ) → ((b : Bool) → runs q b m ≤ n) → runs q going (l ++ m) ≤ runs q going l + n
 runs_more q going [] m n h = let a = h going in omega (arith, a)
-runs_more q going (Hold p key ty changes ∷ l) m n h = elim (eqb q p.0) as (λ b. cond b (runs q false (l ++ m)) (runs q going (l ++ m)) ≤ cond b (runs q false l) (runs q going l) + n) [ true ↦ runs_more q false l m n h | false ↦ runs_more q going l m n h ]
-runs_more q going (Free p key ∷ l) m n h =
+runs_more q going (Hold key p ty changes ∷ l) m n h = elim (eqb q p.0) as (λ b. cond b (runs q false (l ++ m)) (runs q going (l ++ m)) ≤ cond b (runs q false l) (runs q going l) + n) [ true ↦ runs_more q false l m n h | false ↦ runs_more q going l m n h ]
+runs_more q going (Free key p ∷ l) m n h =
     let t = runs_more q true l m n h in
     elim (eqb q p.0) as (λ b. cond b (cond going 0 1 + runs q true (l ++ m)) (runs q going (l ++ m)) ≤ cond b (cond going 0 1 + runs q true l) (runs q going l) + n) [ true ↦ omega (arith, t) | false ↦ runs_more q going l m n h ]
 runs_more q going (Retype key site ∷ l) m n h = runs_more q going l m n h
@@ -56,7 +56,7 @@ runs_more q going (Busy key pins ∷ l) m n h = runs_more q going l m n h
 runs_more q going (WornType key ∷ l) m n h = runs_more q going l m n h
 runs_more q going (Define key site ∷ l) m n h = runs_more q going l m n h
 runs_more q going (WornDef key ∷ l) m n h = runs_more q going l m n h
-runs_more q going (Call p key site args v ∷ l) m n h = runs_more q going l m n h
+runs_more q going (Call key p site args v ∷ l) m n h = runs_more q going l m n h
 
 runs_going : (q : CallNo) (keys : List KeyId) → runs q.0 true (frees q keys) ≡ 0
 runs_going q [] = refl
@@ -137,14 +137,14 @@ record FreesCut (q : CallNo) (keys : List KeyId) (xs : List Act) (a : Act) : Typ
   back : List KeyId
   keys_are : keys ≡ front ++ key ∷ back
   first : xs ≡ frees q front
-  is : Free q key ≡ a
+  is : Free key q ≡ a
 
 frees_cut : (q : CallNo) (keys : List KeyId) (xs ys : List Act) (a : Act) → frees q keys ≡ xs ++ a ∷ ys → FreesCut q keys xs a
 frees_cut q [] xs ys a e = absurd (empty_not xs ys a e)
 frees_cut q (key ∷ keys) [] ys a e = record { front = []; key = key; back = keys; keys_are = refl; first = refl; is = cc e }
 frees_cut q (key ∷ keys) (x ∷ xs) ys a e =
-    let r = frees_cut q keys xs ys a (cc e) in let same : x ≡ Free q key = cc e in
-    record { front = key ∷ r.front; key = r.key; back = r.back; keys_are = ap (λ l. key ∷ l) r.keys_are; first = ap (λ y. y ∷ xs) same ∙ ap (λ l. Free q key ∷ l) r.first; is = r.is }
+    let r = frees_cut q keys xs ys a (cc e) in let same : x ≡ Free key q = cc e in
+    record { front = key ∷ r.front; key = r.key; back = r.back; keys_are = ap (λ l. key ∷ l) r.keys_are; first = ap (λ y. y ∷ xs) same ∙ ap (λ l. Free key q ∷ l) r.first; is = r.is }
 
 -- what stands behind the Frees of the first of these keys
 freed_front : (q : CallNo) (kept hs : List Stand) (xs ys : List KeyId) → map (λ (h : Stand). h.key) hs ≡ map (λ (k : KeyId). k.0) (xs ++ ys) → ((k : ℕ) → count_of k (kept ++ hs) ≤ 1) → (left : List Stand) × (standing_from q.0 (kept ++ hs) (frees q xs) ≡ kept ++ left) × (map (λ (h : Stand). h.key) left ≡ map (λ (k : KeyId). k.0) ys)
@@ -173,9 +173,9 @@ others_front : (k : ℕ) (xs ys : List KeyId) → AreOthers k (xs ++ ys) → Are
 others_front k [] ys h = tt
 others_front k (x ∷ xs) ys h = (h.0, others_front k xs ys h.1)
 
-frees_last : (q : CallNo) (xs : List KeyId) (key : KeyId) → frees q (xs ++ key ∷ []) ≡ frees q xs ++ Free q key ∷ []
+frees_last : (q : CallNo) (xs : List KeyId) (key : KeyId) → frees q (xs ++ key ∷ []) ≡ frees q xs ++ Free key q ∷ []
 frees_last q [] key = refl
-frees_last q (x ∷ xs) key = ap (λ l. Free q x ∷ l) (frees_last q xs key)
+frees_last q (x ∷ xs) key = ap (λ l. Free x q ∷ l) (frees_last q xs key)
 
 pub retreat_fits : (t : Table) (names : List Name) (c : ℕ) (q : CallNo) (key : KeyId) (others : List KeyId) (old new : List Entry) (own : Stand) (hs : List Stand) → MayRetreat c q key old → stands c q.0 old ≡ own ∷ hs → map (λ (h : Stand). h.key) hs ≡ map (λ (k : KeyId). k.0) others
     → ((k : ℕ) → count_of k (own ∷ hs) ≤ 1) → AreOthers key.0 others → acts c new ≡ acts c old ++ frees q others → EachNew (FitsRules t names c) c old new
@@ -201,8 +201,8 @@ retreat_fits t names c q key others old new own hs may held keys once apart is =
         held = ap (stands c q.0) from.1 ∙ stand ∙ ap (λ (l : List Stand). own ∷ l) n.are;
         is = n.is;
         few =
-            let a = ap (λ w. runs q.0 false (w ++ Free q f.key ∷ [])) (acts_append c may.began.since from.0 ∙ ap (λ w. acts c may.began.since ++ w) rest) in
-            let d = ap (runs q.0 false) (append_assoc (acts c may.began.since) (frees q f.front) (Free q f.key ∷ []) ∙ ap (λ w. acts c may.began.since ++ w) (sym (frees_last q f.front f.key))) in
+            let a = ap (λ w. runs q.0 false (w ++ Free f.key q ∷ [])) (acts_append c may.began.since from.0 ∙ ap (λ w. acts c may.began.since ++ w) rest) in
+            let d = ap (runs q.0 false) (append_assoc (acts c may.began.since) (frees q f.front) (Free f.key q ∷ []) ∙ ap (λ w. acts c may.began.since ++ w) (sym (frees_last q f.front f.key))) in
             let m = runs_more q.0 false (acts c may.began.since) (frees q (f.front ++ f.key ∷ [])) 1 (runs_frees q (f.front ++ f.key ∷ [])) in
             let grow = redefs_grow key.0 old (old ++ from.0) (from.0, refl) in let few = may.few in omega (arith, a, d, m, grow, few);
       })));

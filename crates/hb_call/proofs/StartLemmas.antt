@@ -41,7 +41,7 @@ none_held c q k log none = held_stands c q k log ∙ ap (count_of k) none
 pub first_room : (c q k : ℕ) (log : List Entry) → stands c q log ≡ [] → HasRoom log c q → length (of_caller c (spot k log).calls) < HOLDS_MAX
 first_room c q k log none room = let r = room k in let z = none_held c q k log none in omega (arith, r, z)
 
-pub started : (t : Table) (door : Fixed) (q : CallNo) (names asked : List Name) (old new : List Entry) (key : KeyId) (own : Held) → Adds door.caller old new (Hold q key own.ty own.changes) → IsLegal door.limit new → stands door.caller q.0 old ≡ [] → HasRoom old door.caller q.0 → key.0 < NAMES_MAX → IsAskedFor names asked key.0 → IsCalling t door q.0 names asked new key own (key ∷ []) []
+pub started : (t : Table) (door : Fixed) (q : CallNo) (names asked : List Name) (old new : List Entry) (key : KeyId) (own : Held) → Adds door.caller old new (Hold key q own.ty own.changes) → IsLegal door.limit new → stands door.caller q.0 old ≡ [] → HasRoom old door.caller q.0 → key.0 < NAMES_MAX → IsAskedFor names asked key.0 → IsCalling t door q.0 names asked new key own (key ∷ []) []
 started t door q names asked old new key own adds legal none room low asks =
     let c = door.caller in let n = own.changes in
     record {
@@ -57,15 +57,15 @@ started t door q names asked old new key own adds legal none room low asks =
     }
 
 -- the first Hold fits the rules
-pub first_fits : (t : Table) (known : List Name) (c : ℕ) (q : CallNo) (old mid first : List Entry) (key : KeyId) (ty : Option TypeSite) (n : ℕ) → Adds c old mid (Hold q key ty n) → stands c q.0 old ≡ [] → key.0 < length known → Learns c mid first → EachNew (FitsRules t known c) c old first
+pub first_fits : (t : Table) (known : List Name) (c : ℕ) (q : CallNo) (old mid first : List Entry) (key : KeyId) (ty : Option TypeSite) (n : ℕ) → Adds c old mid (Hold key q ty n) → stands c q.0 old ≡ [] → key.0 < length known → Learns c mid first → EachNew (FitsRules t known c) c old first
 first_fits t known c q old mid first key ty n adds none named learns =
     let F = FitsRules t known c in
     each_on F c old mid first (learns_prefix c mid first learns)
-    (each_adds F c old mid (Hold q key ty n) adds (record { row = tt; hold = inl (ap (standing q.0) (learns_acts c old (old ++ adds.0) (adds.0, refl, adds.2)) ∙ none); free = tt; whole = inl (ap (standing q.0) (learns_acts c old (old ++ adds.0) (adds.0, refl, adds.2)) ∙ none); named = named }))
+    (each_adds F c old mid (Hold key q ty n) adds (record { row = tt; hold = inl (ap (standing q.0) (learns_acts c old (old ++ adds.0) (adds.0, refl, adds.2)) ∙ none); free = tt; whole = inl (ap (standing q.0) (learns_acts c old (old ++ adds.0) (adds.0, refl, adds.2)) ∙ none); named = named }))
     (each_learns F c mid first learns)
 
 -- the look behind the first Hold
-pub looked_first : (c : ℕ) (q : CallNo) (old mid log : List Entry) (key : KeyId) (ty : Option TypeSite) (n : ℕ) (seen : Look) → Adds c old mid (Hold q key ty n) → stands c q.0 old ≡ [] → Learns c mid log → IsLookAt key.0 seen log → HasLooked c q key seen log
+pub looked_first : (c : ℕ) (q : CallNo) (old mid log : List Entry) (key : KeyId) (ty : Option TypeSite) (n : ℕ) (seen : Look) → Adds c old mid (Hold key q ty n) → stands c q.0 old ≡ [] → Learns c mid log → IsLookAt key.0 seen log → HasLooked c q key seen log
 looked_first c q old mid log key ty n seen adds none learns fact = record {
   start = mid;
   began = record {
@@ -87,7 +87,7 @@ looked_first c q old mid log key ty n seen adds none learns fact = record {
 
 -- the method's key is asked for and held, and then its definition is looked at
 pub begins : (g : Given) (known asked longer more : List Name) (old mid first : List Entry) (name : Name) (own : Held) → IsPrefix known longer → length longer ≤ NAMES_MAX → Differ longer → place longer name ≡ Some g.key.0 → more ≡ with_name asked name
-    → Adds g.door.caller old mid (Hold g.q g.key own.ty own.changes) → IsLegal g.door.limit mid → stands g.door.caller g.q.0 old ≡ [] → Learns g.door.caller mid first → IsLegal g.door.limit first → Goes g (at known asked old) (at longer more first)
+    → Adds g.door.caller old mid (Hold g.key g.q own.ty own.changes) → IsLegal g.door.limit mid → stands g.door.caller g.q.0 old ≡ [] → Learns g.door.caller mid first → IsLegal g.door.limit first → Goes g (at known asked old) (at longer more first)
 begins g known asked longer more old mid first name own named few differ e is adds legal none learns later =
     goes_on g (at known asked old) (at longer more mid) (at longer more first)
     (goes_key g known asked longer more old mid name g.key own named few differ e is (inr adds) (λ one. absurd (let z = none_held g.door.caller g.q.0 g.key.0 old none in omega (arith, one, z))) legal)

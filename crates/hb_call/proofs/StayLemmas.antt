@@ -55,7 +55,7 @@ pub acts_rest : (c : ℕ) (old rest new : List Entry) (more : List Act) → old 
 acts_rest c old rest new more is e = cancel (acts c old) (acts c rest) more (sym (acts_append c old rest) ∙ ap (acts c) is ∙ e)
 
 -- what a Hold found is the type of its key
-pub hold_finds : (limit c : ℕ) (q : CallNo) (key : KeyId) (ty : Option TypeSite) (n : ℕ) (old new : List Entry) → Adds c old new (Hold q key ty n) → IsLegal limit new
+pub hold_finds : (limit c : ℕ) (q : CallNo) (key : KeyId) (ty : Option TypeSite) (n : ℕ) (old new : List Entry) → Adds c old new (Hold key q ty n) → IsLegal limit new
     → (ty ≡ (spot key.0 new).ty) × (n ≡ (spot key.0 new).changes)
 hold_finds limit c q key ty n old new adds legal =
     let h = held_since limit c (old ++ adds.0) [] q key ty n (subst (IsLegal limit) adds.1 legal) tt in

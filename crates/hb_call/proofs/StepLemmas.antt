@@ -55,17 +55,17 @@ module _ (g : Given) (known asked : List Name) where
     others = λ p other. adds_apart g.door.caller p old new a adds (apart p other);
   }
 
-  pub goes_hold : (longer : List Name) (old new : List Entry) (name : Name) (key : KeyId) (ty : Option TypeSite) (n : ℕ) → place longer name ≡ Some key.0 → Adds g.door.caller old new (Hold g.q key ty n) → IsLegal g.door.limit new → Goes g (at longer asked old) (at longer (with_name asked name) new)
+  pub goes_hold : (longer : List Name) (old new : List Entry) (name : Name) (key : KeyId) (ty : Option TypeSite) (n : ℕ) → place longer name ≡ Some key.0 → Adds g.door.caller old new (Hold key g.q ty n) → IsLegal g.door.limit new → Goes g (at longer asked old) (at longer (with_name asked name) new)
   goes_hold longer old new name key ty n e adds legal = record {
     went = record {
       named = prefix_itself longer;
       few = λ h. h;
       differ = λ h. h;
-      kept = adds_prefix g.door.caller old new (Hold g.q key ty n) adds;
+      kept = adds_prefix g.door.caller old new (Hold key g.q ty n) adds;
       legal = λ h. legal;
-      others = λ p other. adds_apart g.door.caller p old new (Hold g.q key ty n) adds (ne_eqb p g.q.0 other);
+      others = λ p other. adds_apart g.door.caller p old new (Hold key g.q ty n) adds (ne_eqb p g.q.0 other);
     };
-    grew = grows_adds g.door.caller longer asked (with_name asked name) old new (Hold g.q key ty n) adds (λ names p. sym (key_named longer names asked name key.0 e p));
+    grew = grows_adds g.door.caller longer asked (with_name asked name) old new (Hold key g.q ty n) adds (λ names p. sym (key_named longer names asked name key.0 e p));
     keeps = (refl, tt);
     parts = (refl, tt);
     begun = λ fits start b. begun_hold g key ty n start old new adds fits b;
@@ -118,10 +118,10 @@ module _ (g : Given) (known asked : List Name) where
   }
 
   -- the Call comes last, as its row says
-  pub grew_call : (old new : List Entry) (site : Option BodySite) (v : Verdict) (adds : Adds g.door.caller old new (Call g.q g.key site g.args v)) → IsFilled g.args → IsDecided g.t known (old ++ adds.0) (g.door.caller, g.q.0) g.key.0 site (kinds_of g.args) v → IsWhole g.door.caller g.q.0 (old ++ adds.0) → Grew g (at known asked old) (at known asked new)
+  pub grew_call : (old new : List Entry) (site : Option BodySite) (v : Verdict) (adds : Adds g.door.caller old new (Call g.key g.q site g.args v)) → IsFilled g.args → IsDecided g.t known (old ++ adds.0) (g.door.caller, g.q.0) g.key.0 site (kinds_of g.args) v → IsWhole g.door.caller g.q.0 (old ++ adds.0) → Grew g (at known asked old) (at known asked new)
   grew_call old new site v adds filled row whole =
-      with_rules g.t g.door.caller known asked asked old new (grows_adds g.door.caller known asked asked old new (Call g.q g.key site g.args v) adds (λ names p. refl))
-      (each_adds (FitsRules g.t known g.door.caller) g.door.caller old new (Call g.q g.key site g.args v) adds (record { row = (row, filled); hold = tt; free = tt; whole = whole; named = tt }))
+      with_rules g.t g.door.caller known asked asked old new (grows_adds g.door.caller known asked asked old new (Call g.key g.q site g.args v) adds (λ names p. refl))
+      (each_adds (FitsRules g.t known g.door.caller) g.door.caller old new (Call g.key g.q site g.args v) adds (record { row = (row, filled); hold = tt; free = tt; whole = whole; named = tt }))
 
-  pub went_call : (old new : List Entry) (site : Option BodySite) (v : Verdict) → Adds g.door.caller old new (Call g.q g.key site g.args v) → IsLegal g.door.limit new → Went g (at known asked old) (at known asked new)
-  went_call old new site v adds legal = went_adds asked old new (Call g.q g.key site g.args v) adds legal (λ p other. refl)
+  pub went_call : (old new : List Entry) (site : Option BodySite) (v : Verdict) → Adds g.door.caller old new (Call g.key g.q site g.args v) → IsLegal g.door.limit new → Went g (at known asked old) (at known asked new)
+  went_call old new site v adds legal = went_adds asked old new (Call g.key g.q site g.args v) adds legal (λ p other. refl)

@@ -83,7 +83,7 @@ pub record IsCalling (t : Table) (door : Fixed) (q : ℕ) (names asked : List Na
 
 -- The call held the key before, or holds it from here on. This is what the hold found.
 abbrev pub IsHeldFrom : ℕ → CallNo → KeyId → Held → List Entry → List Entry → Type 0
-IsHeldFrom c q key held old new = ((new ≡ old) × HasType old (c, q.0) key.0 held) ⊎ Adds c old new (Hold q key held.ty held.changes)
+IsHeldFrom c q key held old new = ((new ≡ old) × HasType old (c, q.0) key.0 held) ⊎ Adds c old new (Hold key q held.ty held.changes)
 
 -- where the list of names was full for a method, it is so, and the method's name is none of them
 abbrev pub IsRefusedRightly : Table → List Name → Option Refused → Type 0
@@ -127,14 +127,14 @@ IsLive c q old new = (rest : List Entry) × (old ++ rest ≡ new) × StaysLive q
 
 -- the act is a Hold or a Free of the call q
 abbrev pub IsPart : CallNo → Act → Type 0
-IsPart q (Hold p key ty changes) = p ≡ q
-IsPart q (Free p key) = p ≡ q
+IsPart q (Hold key p ty changes) = p ≡ q
+IsPart q (Free key p) = p ≡ q
 IsPart q (Retype key site) = ⊥
 IsPart q (Busy key pins) = ⊥
 IsPart q (WornType key) = ⊥
 IsPart q (Define key site) = ⊥
 IsPart q (WornDef key) = ⊥
-IsPart q (Call p key site args verdict) = ⊥
+IsPart q (Call key p site args verdict) = ⊥
 
 -- each of the acts is a Hold or a Free of the call q
 abbrev pub AreParts : CallNo → List Act → Type 0
@@ -186,7 +186,7 @@ pub record HoldsAnswer (t : Table) (names : List Name) (c : ℕ) (q : CallNo) (a
   pub named : place names (name_of t (answer.class.0, answer.name.0)) ≡ Some answer.key.0
   pub ty : Option TypeSite
   pub changes : ℕ
-  pub is : a ≡ Hold q answer.key ty changes
+  pub is : a ≡ Hold answer.key q ty changes
   pub whole : IsWhole c q.0 log
 
 -- answers were added, and what came are Holds of their keys

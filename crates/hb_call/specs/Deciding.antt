@@ -107,7 +107,7 @@ pub record IsRuledAt (g : Given) (m : Moment) (held : List KeyId) (said : List A
 -- The last entry is the Call, which is decided as its row says. What the call read since the start is this decision.
 pub record Decided (g : Given) (names : List Name) (old new : List Entry) (v : Verdict) (site : Option BodySite) : Type 0 where
   pub before : List Entry
-  pub is : new ≡ before ++ entry g.door.caller (Call g.q g.key site g.args v) ∷ []
+  pub is : new ≡ before ++ entry g.door.caller (Call g.key g.q site g.args v) ∷ []
   pub unshared : v ≡ verdict.Enter by.Shared → ⊥
   pub row : IsDecided g.t names before (g.door.caller, g.q.0) g.key.0 site (kinds_of g.args) v
   pub reads : (start : List Entry) → Begun g start old
@@ -117,7 +117,7 @@ pub record Decided (g : Given) (names : List Name) (old new : List Entry) (v : V
 -- A check was made. Behind these entries came its Call: there the call held its own key and those of the answers alone, which are the derivation's uses, and what was kept was true, and its machine's own.
 pub record IsResting (g : Given) (past : Option (List Act)) (known asked : List Name) (new : List Entry) (held : List KeyId) (answers : List Answer) (d : Derivation) : Type 0 where
   pub before : List Entry
-  pub is : new ≡ before ++ entry g.door.caller (Call g.q g.key (Some d.body) g.args (verdict.Enter by.Fresh)) ∷ []
+  pub is : new ≡ before ++ entry g.door.caller (Call g.key g.q (Some d.body) g.args (verdict.Enter by.Fresh)) ∷ []
   pub named : (bytes : List ℕ) × (place known (g.class.0, bytes) ≡ Some g.key.0)
   pub calling : IsCalling g.t g.door g.q.0 known asked before g.key g.own held answers
   pub shown : IsShown g answers d

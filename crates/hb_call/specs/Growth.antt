@@ -23,14 +23,14 @@ with_key names asked k = with_found asked (slice_get names k)
 
 -- An act that needs a key asks for its name. A Free and a Call have theirs from before.
 abbrev pub asked_by : (names asked : List Name) → Act → List Name
-asked_by names asked (Hold q key ty changes) = with_key names asked key.0
-asked_by names asked (Free q key) = asked
+asked_by names asked (Hold key q ty changes) = with_key names asked key.0
+asked_by names asked (Free key q) = asked
 asked_by names asked (Retype key site) = with_key names asked key.0
 asked_by names asked (Busy key pins) = with_key names asked key.0
 asked_by names asked (WornType key) = with_key names asked key.0
 asked_by names asked (Define key site) = with_key names asked key.0
 asked_by names asked (WornDef key) = with_key names asked key.0
-asked_by names asked (Call q key site args verdict) = asked
+asked_by names asked (Call key q site args verdict) = asked
 
 -- the names that were asked for after these acts, in the order of the first asking
 abbrev pub asked_after : (names asked : List Name) → List Act → List Name

@@ -47,9 +47,9 @@ module _ (F : List Entry → Act → Type 0) (c : ℕ) where
   each_on a b d p left right before after e is from own = elim (split b p.0 before after e (p.1 ∙ is)) [ inl r ↦ right before after e is r own | inr r ↦ left before r.0 e r.1 from own ]
 
 fits_longer : (t : Table) (names more : List Name) (c : ℕ) (before : List Entry) (a : Act) → FitsCall t names c before a → FitsCall t (names ++ more) c before a
-fits_longer t names more c before (Call q key site args v) d = (row_longer t names more before (c, q.0) key.0 site (kinds_of args) v d.0, d.1)
-fits_longer t names more c before (Hold q key ty changes) d = d
-fits_longer t names more c before (Free q key) d = d
+fits_longer t names more c before (Call key q site args v) d = (row_longer t names more before (c, q.0) key.0 site (kinds_of args) v d.0, d.1)
+fits_longer t names more c before (Hold key q ty changes) d = d
+fits_longer t names more c before (Free key q) d = d
 fits_longer t names more c before (Retype key site) d = d
 fits_longer t names more c before (Busy key pins) d = d
 fits_longer t names more c before (WornType key) d = d
@@ -131,15 +131,15 @@ next_longer t names known c q log next longer n =
     }
 
 hold_longer : (t : Table) (names known : List Name) (c : ℕ) (log : List Entry) (a : Act) → IsPrefix names known → FitsHold t names c log a → FitsHold t known c log a
-hold_longer t names known c log (Hold q key ty changes) longer (inl none) = inl none
-hold_longer t names known c log (Hold q key ty changes) longer (inr n) = inr (record { look = n.look; next = next_longer t names known c q log n.look longer n.next; is = place-longer names known (name_of t n.look) key.0 longer n.is })
-hold_longer t names known c log (Free q key) longer h = h
+hold_longer t names known c log (Hold key q ty changes) longer (inl none) = inl none
+hold_longer t names known c log (Hold key q ty changes) longer (inr n) = inr (record { look = n.look; next = next_longer t names known c q log n.look longer n.next; is = place-longer names known (name_of t n.look) key.0 longer n.is })
+hold_longer t names known c log (Free key q) longer h = h
 hold_longer t names known c log (Retype key site) longer h = h
 hold_longer t names known c log (Busy key pins) longer h = h
 hold_longer t names known c log (WornType key) longer h = h
 hold_longer t names known c log (Define key site) longer h = h
 hold_longer t names known c log (WornDef key) longer h = h
-hold_longer t names known c log (Call q key site args v) longer h = h
+hold_longer t names known c log (Call key q site args v) longer h = h
 
 -- a full list cannot grow
 full_longer : (names known : List Name) (name : Name) → IsPrefix names known → (length names ≤ NAMES_MAX → IsFull names name) → length known ≤ NAMES_MAX → IsFull known name
@@ -154,9 +154,9 @@ full_longer names known name longer full few =
     nothing (x ∷ l) e = absurd (omega (arith, e))
 
 free_longer : (t : Table) (names known : List Name) (c : ℕ) (log : List Entry) (a : Act) → IsPrefix names known → FitsFree t names c log a → FitsFree t known c log a
-free_longer t names known c log (Free q key) longer (inl h) = inl h
-free_longer t names known c log (Free q key) longer (inr (inl h)) = inr (inl h)
-free_longer t names known c log (Free q key) longer (inr (inr (inl h))) = inr (inr (inl (record {
+free_longer t names known c log (Free key q) longer (inl h) = inl h
+free_longer t names known c log (Free key q) longer (inr (inl h)) = inr (inl h)
+free_longer t names known c log (Free key q) longer (inr (inr (inl h))) = inr (inr (inl (record {
   look = h.look;
   next = next_longer t names known c q log h.look longer h.next;
   own = h.own;
@@ -164,27 +164,27 @@ free_longer t names known c log (Free q key) longer (inr (inr (inl h))) = inr (i
   only = λ j one. elim (h.only j one) [ inl e ↦ inl e | inr p ↦ inr (p.0, p.1, place-longer names known p.0 j longer p.2) ];
   whole = h.whole;
 })))
-free_longer t names known c log (Free q key) longer (inr (inr (inr h))) = inr (inr (inr h))
-free_longer t names known c log (Hold q key ty changes) longer h = h
+free_longer t names known c log (Free key q) longer (inr (inr (inr h))) = inr (inr (inr h))
+free_longer t names known c log (Hold key q ty changes) longer h = h
 free_longer t names known c log (Retype key site) longer h = h
 free_longer t names known c log (Busy key pins) longer h = h
 free_longer t names known c log (WornType key) longer h = h
 free_longer t names known c log (Define key site) longer h = h
 free_longer t names known c log (WornDef key) longer h = h
-free_longer t names known c log (Call q key site args v) longer h = h
+free_longer t names known c log (Call key q site args v) longer h = h
 
 below_longer : (names known : List Name) (k : ℕ) → IsPrefix names known → k < length names → k < length known
 below_longer names known k longer h = let n = ap length longer.1 in let a = length-append names longer.0 in omega (arith, h, n, a)
 
 name_longer : (names known : List Name) (a : Act) → IsPrefix names known → HasName names a → HasName known a
-name_longer names known (Hold q key ty changes) longer h = below_longer names known key.0 longer h
-name_longer names known (Free q key) longer h = h
+name_longer names known (Hold key q ty changes) longer h = below_longer names known key.0 longer h
+name_longer names known (Free key q) longer h = h
 name_longer names known (Retype key site) longer h = below_longer names known key.0 longer h
 name_longer names known (Busy key pins) longer h = below_longer names known key.0 longer h
 name_longer names known (WornType key) longer h = below_longer names known key.0 longer h
 name_longer names known (Define key site) longer h = below_longer names known key.0 longer h
 name_longer names known (WornDef key) longer h = below_longer names known key.0 longer h
-name_longer names known (Call q key site args v) longer h = h
+name_longer names known (Call key q site args v) longer h = h
 
 -- what fits the rules does so for each longer list of names
 pub rules_longer : (t : Table) (names known : List Name) (c : ℕ) (before : List Entry) (a : Act) → IsPrefix names known → FitsRules t names c before a → FitsRules t known c before a

@@ -22,7 +22,7 @@ pub record Holds (c q : ℕ) (held : List KeyId) (log : List Entry) : Type 0 whe
 -- the Frees of these keys by a call, in their order
 abbrev pub frees : CallNo → List KeyId → List Act
 frees q [] = []
-frees q (key ∷ keys) = Free q key ∷ frees q keys
+frees q (key ∷ keys) = Free key q ∷ frees q keys
 
 -- these keys may be freed one after another, where these Holds stand
 abbrev pub MayFree : List KeyId → List Stand → Type 0
@@ -42,5 +42,5 @@ pub record HasCall (c q : ℕ) (log : List Entry) : Type 0 where
   pub args : ArgKinds
   pub verdict : Verdict
   pub after : List Entry
-  pub is : log ≡ before ++ entry c (Call call key site args verdict) ∷ after
+  pub is : log ≡ before ++ entry c (Call key call site args verdict) ∷ after
   pub number : call.0 ≡ q

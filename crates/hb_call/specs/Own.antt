@@ -41,12 +41,12 @@ brings (verdict.IllTyped f) = false
 
 -- What an act makes of its caller's items, behind the acts before it: a call that brings a derivation keeps it, a new type drops the items that used the key, and a new definition drops the key's.
 abbrev pub kept_by : (before : List Act) → Items → Act → Items
-kept_by before items (Call q key (Some site) args v) = if brings v then with_item key.0 (item_by (standing q.0 before) site) items else items
-kept_by before items (Call q key None args v) = items
+kept_by before items (Call key q (Some site) args v) = if brings v then with_item key.0 (item_by (standing q.0 before) site) items else items
+kept_by before items (Call key q None args v) = items
 kept_by before items (Retype key site) = without_key_used key.0 items
 kept_by before items (Define key site) = without_item key.0 items
-kept_by before items (Hold q key ty changes) = items
-kept_by before items (Free q key) = items
+kept_by before items (Hold key q ty changes) = items
+kept_by before items (Free key q) = items
 kept_by before items (Busy key pins) = items
 kept_by before items (WornType key) = items
 kept_by before items (WornDef key) = items
@@ -66,11 +66,11 @@ cache_since past l = cache_from past nothing (drop (length past) l)
 
 -- the act changes what its caller keeps
 abbrev pub changes_kept : Act → Bool
-changes_kept (Call q key site args v) = brings v
+changes_kept (Call key q site args v) = brings v
 changes_kept (Retype key site) = true
 changes_kept (Define key site) = true
-changes_kept (Hold q key ty changes) = false
-changes_kept (Free q key) = false
+changes_kept (Hold key q ty changes) = false
+changes_kept (Free key q) = false
 changes_kept (Busy key pins) = false
 changes_kept (WornType key) = false
 changes_kept (WornDef key) = false
@@ -92,4 +92,4 @@ pub record WasSeen (key : KeyId) (n : ℕ) (site : Option TypeSite) (log : List 
   pub caller : ℕ
   pub call : CallNo
   pub after : List Entry
-  pub is : log ≡ before ++ entry caller (Hold call key site n) ∷ after
+  pub is : log ≡ before ++ entry caller (Hold key call site n) ∷ after

@@ -51,12 +51,12 @@ cache_append before items [] m = ap (λ b. cache_from b items m) (sym (append-ni
 cache_append before items (a ∷ l) m = cache_append (before ++ a ∷ []) (kept_by before items a) l m ∙ ap (λ b. cache_from b (cache_from (before ++ a ∷ []) (kept_by before items a) l) m) (append_assoc before (a ∷ []) l)
 
 kept_left : (before : List Act) (items : Items) (a : Act) → changes_kept a ≡ false → kept_by before items a ≡ items
-kept_left before items (Call q key (Some site) args v) h = ap (λ b. if b then with_item key.0 (item_by (standing q.0 before) site) items else items) h
-kept_left before items (Call q key None args v) h = refl
+kept_left before items (Call key q (Some site) args v) h = ap (λ b. if b then with_item key.0 (item_by (standing q.0 before) site) items else items) h
+kept_left before items (Call key q None args v) h = refl
 kept_left before items (Retype key site) h = absurd (cc h)
 kept_left before items (Define key site) h = absurd (cc h)
-kept_left before items (Hold q key ty changes) h = refl
-kept_left before items (Free q key) h = refl
+kept_left before items (Hold key q ty changes) h = refl
+kept_left before items (Free key q) h = refl
 kept_left before items (Busy key pins) h = refl
 kept_left before items (WornType key) h = refl
 kept_left before items (WornDef key) h = refl
@@ -86,12 +86,12 @@ cache_more c past old new a begins is = ap (cache_since past) is ∙ since_appen
 
 -- what a call brings depends on what stands alone
 kept_alike : (x y : List Act) (items : Items) (a : Act) → ((q : ℕ) → standing q x ≡ standing q y) → kept_by x items a ≡ kept_by y items a
-kept_alike x y items (Call q key (Some site) args v) same = ap (λ (hs : List Stand). if brings v then with_item key.0 (item_by hs site) items else items) (same q.0)
-kept_alike x y items (Call q key None args v) same = refl
+kept_alike x y items (Call key q (Some site) args v) same = ap (λ (hs : List Stand). if brings v then with_item key.0 (item_by hs site) items else items) (same q.0)
+kept_alike x y items (Call key q None args v) same = refl
 kept_alike x y items (Retype key site) same = refl
 kept_alike x y items (Define key site) same = refl
-kept_alike x y items (Hold q key ty changes) same = refl
-kept_alike x y items (Free q key) same = refl
+kept_alike x y items (Hold key q ty changes) same = refl
+kept_alike x y items (Free key q) same = refl
 kept_alike x y items (Busy key pins) same = refl
 kept_alike x y items (WornType key) same = refl
 kept_alike x y items (WornDef key) same = refl
@@ -132,14 +132,14 @@ key_begins names asked k = by (slice_get names k)
     by (Some name) = with_name-begins asked name
 
 act_begins : (names asked : List Name) (a : Act) → IsPrefix asked (asked_by names asked a)
-act_begins names asked (Hold q key ty changes) = key_begins names asked key.0
-act_begins names asked (Free q key) = prefix_itself asked
+act_begins names asked (Hold key q ty changes) = key_begins names asked key.0
+act_begins names asked (Free key q) = prefix_itself asked
 act_begins names asked (Retype key site) = key_begins names asked key.0
 act_begins names asked (Busy key pins) = key_begins names asked key.0
 act_begins names asked (WornType key) = key_begins names asked key.0
 act_begins names asked (Define key site) = key_begins names asked key.0
 act_begins names asked (WornDef key) = key_begins names asked key.0
-act_begins names asked (Call q key site args v) = prefix_itself asked
+act_begins names asked (Call key q site args v) = prefix_itself asked
 
 -- the names that were asked for begin those that are so after these acts
 pub asked_begins : (names asked : List Name) (l : List Act) → IsPrefix asked (asked_after names asked l)
@@ -158,7 +158,7 @@ asked_already names asked k h = ap (with_found asked) h.named ∙ with_name-know
 -- a type changes only with its count
 pub seen_now : (limit : ℕ) (key : KeyId) (n : ℕ) (site : Option TypeSite) (log : List Entry) → IsLegal limit log → WasSeen key n site log → (spot key.0 log).changes ≡ n → (spot key.0 log).ty ≡ site
 seen_now limit key n site log legal h =
-    let e : Entry = entry h.caller (Hold h.call key site n) in let found = legal h.before h.after e h.is in
+    let e : Entry = entry h.caller (Hold key h.call site n) in let found = legal h.before h.after e h.is in
     subst (λ l. (spot key.0 l).changes ≡ n → (spot key.0 l).ty ≡ site) (sym h.is) (λ now. changes_same key.0 h.before (e ∷ h.after) (now ∙ found.1) ∙ sym found.0)
 
 pub seen_on : (key : KeyId) (n : ℕ) (site : Option TypeSite) (old new : List Entry) → IsPrefix old new → WasSeen key n site old → WasSeen key n site new
@@ -167,7 +167,7 @@ seen_on key n site old new p h = record {
   caller = h.caller;
   call = h.call;
   after = h.after ++ p.0;
-  is = sym p.1 ∙ ap (λ w. w ++ p.0) h.is ∙ append_assoc h.before (entry h.caller (Hold h.call key site n) ∷ h.after) p.0;
+  is = sym p.1 ∙ ap (λ w. w ++ p.0) h.is ∙ append_assoc h.before (entry h.caller (Hold key h.call site n) ∷ h.after) p.0;
 }
 
 -- ── kept checks stay true ──
@@ -289,9 +289,9 @@ module _ (t : Table) (names known was asked : List Name) (c : ℕ) (past : Optio
       (λ k kept e. check_on t names known was asked old new longer more (adds_prefix c old new (Define key site) adds) kept (own.each k kept (not_cleared (eqb key.0 k) (kept_at cache k) kept (sym (drops k) ∙ e))))
 
   -- its caller has a Call that brings a derivation, and a true check that says the same as the Holds which stand was put there
-  pub own_put : (q : CallNo) (key : KeyId) (site : BodySite) (args : ArgKinds) (v : Verdict) (kept : Kept) (left : List (Option Kept)) → IsPrefix old new → acts c new ≡ acts c old ++ Call q key (Some site) args v ∷ [] → brings v ≡ true
+  pub own_put : (q : CallNo) (key : KeyId) (site : BodySite) (args : ArgKinds) (v : Verdict) (kept : Kept) (left : List (Option Kept)) → IsPrefix old new → acts c new ≡ acts c old ++ Call key q (Some site) args v ∷ [] → brings v ≡ true
       → kept.key ≡ key → SaysSame (item_of kept) (item_by (stands c q.0 old) site) → IsTrueCheck t known asked new kept → ((k : ℕ) → kept_at left k ≡ (if eqb kept.key.0 k then Some kept else kept_at cache k)) → IsOwnCache t known asked c past new left
-  own_put q key site args v kept left goes is new_one called says true_one puts = step_of t known asked c past old new (Call q key (Some site) args v) cache left is own.same
+  own_put q key site args v kept left goes is new_one called says true_one puts = step_of t known asked c past old new (Call key q (Some site) args v) cache left is own.same
       (λ items same k. subst (λ (o : Option Kept). SameItem (option_map item_of o) ((if brings v then with_item key.0 (item_by (stands c q.0 old) site) items else items) k)) (sym (puts k))
       (subst (λ (b : Bool). SameItem (option_map item_of (if eqb kept.key.0 k then Some kept else kept_at cache k)) ((if b then with_item key.0 (item_by (stands c q.0 old) site) items else items) k)) (sym new_one)
       (subst (λ (j : KeyId). SameItem (option_map item_of (if eqb kept.key.0 k then Some kept else kept_at cache k)) (with_item j.0 (item_by (stands c q.0 old) site) items k)) called

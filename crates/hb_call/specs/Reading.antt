@@ -25,7 +25,7 @@ pub data Read : Type 0 where
 -- the acts behind a Free of each of these Holds by q, in their order
 abbrev pub freed : ℕ → List Stand → List Act → Option (List Act)
 freed q [] l = Some l
-freed q (h ∷ hs) (Free p key ∷ l) = if nat_eq p.0 q && nat_eq key.0 h.key then freed q hs l else None
+freed q (h ∷ hs) (Free key p ∷ l) = if nat_eq p.0 q && nat_eq key.0 h.key then freed q hs l else None
 freed q (h ∷ hs) _ = None
 
 abbrev pub refused_at : Option BodySite → Verdict → Option (List Act) → Read
@@ -52,15 +52,15 @@ takes_at t site kinds = typed_takes (type_at (sites_of t) (option_map (λ s. s.0
 
 -- What follows the first Hold of q. Where its type fits the arguments, there are Holds and Frees by q, and a Free of k begins the last Frees of a call that is Full. Else there is nothing but the Call of the key k with these kinds.
 abbrev pub decision : (fits : Bool) → ℕ → ℕ → List Ty → List Stand → List Act → Read
-decision fits q k kinds held (Hold p key ty changes ∷ l) = if fits && nat_eq p.0 q then decision fits q k kinds (held ++ record { key = key.0; ty = ty; changes = changes } ∷ []) l else Lost
-decision fits q k kinds held (Free p key ∷ l) =
+decision fits q k kinds held (Hold key p ty changes ∷ l) = if fits && nat_eq p.0 q then decision fits q k kinds (held ++ record { key = key.0; ty = ty; changes = changes } ∷ []) l else Lost
+decision fits q k kinds held (Free key p ∷ l) =
     if fits && nat_eq p.0 q
-    then (if nat_eq key.0 k then full_at (freed q held (Free p key ∷ l)) else decision fits q k kinds (all_but key.0 held) l)
+    then (if nat_eq key.0 k then full_at (freed q held (Free key p ∷ l)) else decision fits q k kinds (all_but key.0 held) l)
     else Lost
-decision fits q k kinds held (Call p key site args v ∷ l) = if nat_eq p.0 q && nat_eq key.0 k && same_kinds kinds (kinds_of args) then called q site v held l else Lost
+decision fits q k kinds held (Call key p site args v ∷ l) = if nat_eq p.0 q && nat_eq key.0 k && same_kinds kinds (kinds_of args) then called q site v held l else Lost
 decision fits q k kinds held _ = Lost
 
 -- The acts of the call q of the key k with these kinds of arguments. They begin with the Hold of k, and go past it as its type takes the arguments.
 abbrev pub call_of : Table → ℕ → ℕ → List Ty → List Act → Read
-call_of t q k kinds (Hold p key ty changes ∷ l) = if nat_eq p.0 q && nat_eq key.0 k then decision (takes_at t ty kinds) q k kinds (record { key = key.0; ty = ty; changes = changes } ∷ []) l else Lost
+call_of t q k kinds (Hold key p ty changes ∷ l) = if nat_eq p.0 q && nat_eq key.0 k then decision (takes_at t ty kinds) q k kinds (record { key = key.0; ty = ty; changes = changes } ∷ []) l else Lost
 call_of t q k kinds _ = Lost

@@ -33,7 +33,7 @@ pub record Began (c : ℕ) (q : CallNo) (key : KeyId) (start log : List Entry) :
   pub before : List Entry
   pub ty : Option TypeSite
   pub changes : ℕ
-  pub is : start ≡ before ++ entry c (Hold q key ty changes) ∷ []
+  pub is : start ≡ before ++ entry c (Hold key q ty changes) ∷ []
   pub none : stands c q.0 before ≡ []
   pub since : List Entry
   pub goes : start ++ since ≡ log
@@ -72,26 +72,26 @@ pub record HoldsNext (t : Table) (names : List Name) (c : ℕ) (q : CallNo) (key
 
 -- a call that holds nothing holds its method's key, and then the keys of its looks in their order
 abbrev pub FitsHold : Table → List Name → ℕ → List Entry → Act → Type 0
-FitsHold t names c log (Hold q key ty changes) = (stands c q.0 log ≡ []) ⊎ HoldsNext t names c q key log
-FitsHold t names c log (Free q key) = Unit {0}
+FitsHold t names c log (Hold key q ty changes) = (stands c q.0 log ≡ []) ⊎ HoldsNext t names c q key log
+FitsHold t names c log (Free key q) = Unit {0}
 FitsHold t names c log (Retype key site) = Unit {0}
 FitsHold t names c log (Busy key pins) = Unit {0}
 FitsHold t names c log (WornType key) = Unit {0}
 FitsHold t names c log (Define key site) = Unit {0}
 FitsHold t names c log (WornDef key) = Unit {0}
-FitsHold t names c log (Call q key site args verdict) = Unit {0}
+FitsHold t names c log (Call key q site args verdict) = Unit {0}
 
 -- how many runs of Frees by q there are in these acts, where `going` tells that one is going on
 abbrev pub runs : ℕ → Bool → List Act → ℕ
 runs q going [] = 0
-runs q going (Hold p key ty changes ∷ l) = cond (q == p.0) (runs q false l) (runs q going l)
-runs q going (Free p key ∷ l) = cond (q == p.0) (cond going 0 1 + runs q true l) (runs q going l)
+runs q going (Hold key p ty changes ∷ l) = cond (q == p.0) (runs q false l) (runs q going l)
+runs q going (Free key p ∷ l) = cond (q == p.0) (cond going 0 1 + runs q true l) (runs q going l)
 runs q going (Retype key site ∷ l) = runs q going l
 runs q going (Busy key pins ∷ l) = runs q going l
 runs q going (WornType key ∷ l) = runs q going l
 runs q going (Define key site ∷ l) = runs q going l
 runs q going (WornDef key ∷ l) = runs q going l
-runs q going (Call p key site args verdict ∷ l) = runs q going l
+runs q going (Call key p site args verdict ∷ l) = runs q going l
 
 -- The call q gives back the next of the keys that it holds behind its first one. It retreats at most as often as the definition of its first key was changed since it began.
 pub record Retreats (c : ℕ) (q : CallNo) (key : KeyId) (log : List Entry) : Type 0 where
@@ -103,19 +103,19 @@ pub record Retreats (c : ℕ) (q : CallNo) (key : KeyId) (log : List Entry) : Ty
   pub others : List Stand
   pub held : stands c q.0 log ≡ own ∷ next ∷ others
   pub is : key.0 ≡ next.key
-  pub few : runs q.0 false (acts c began.since ++ Free q key ∷ []) + (spot first.0 start).redefs ≤ (spot first.0 log).redefs
+  pub few : runs q.0 false (acts c began.since ++ Free key q ∷ []) + (spot first.0 start).redefs ≤ (spot first.0 log).redefs
 
 -- whether the last part that q had in these acts is a Free, where `going` tells it of what was before
 abbrev pub gives : ℕ → Bool → List Act → Bool
 gives q going [] = going
-gives q going (Hold p key ty changes ∷ l) = gives q (cond (q == p.0) false going) l
-gives q going (Free p key ∷ l) = gives q (cond (q == p.0) true going) l
+gives q going (Hold key p ty changes ∷ l) = gives q (cond (q == p.0) false going) l
+gives q going (Free key p ∷ l) = gives q (cond (q == p.0) true going) l
 gives q going (Retype key site ∷ l) = gives q going l
 gives q going (Busy key pins ∷ l) = gives q going l
 gives q going (WornType key ∷ l) = gives q going l
 gives q going (Define key site ∷ l) = gives q going l
 gives q going (WornDef key ∷ l) = gives q going l
-gives q going (Call p key site args verdict ∷ l) = gives q going l
+gives q going (Call key p site args verdict ∷ l) = gives q going l
 
 -- a call that gave keys back holds one key
 abbrev pub IsWhole : ℕ → ℕ → List Entry → Type 0
@@ -137,40 +137,40 @@ pub record GivesUp (c : ℕ) (q : CallNo) (log : List Entry) : Type 0 where
   pub at : List Entry
   pub began : Began c q key start at
   pub since : List Entry
-  pub is : log ≡ at ++ entry c (Free q key) ∷ since
+  pub is : log ≡ at ++ entry c (Free key q) ∷ since
 
 -- a call gives keys back behind its Call, as it retreats, or where the list of names is full
 abbrev pub FitsFree : Table → List Name → ℕ → List Entry → Act → Type 0
-FitsFree t names c log (Free q key) = HasCall c q.0 log ⊎ (Retreats c q key log ⊎ (IsFullRightly t names c q key log ⊎ GivesUp c q log))
-FitsFree t names c log (Hold q key ty changes) = Unit {0}
+FitsFree t names c log (Free key q) = HasCall c q.0 log ⊎ (Retreats c q key log ⊎ (IsFullRightly t names c q key log ⊎ GivesUp c q log))
+FitsFree t names c log (Hold key q ty changes) = Unit {0}
 FitsFree t names c log (Retype key site) = Unit {0}
 FitsFree t names c log (Busy key pins) = Unit {0}
 FitsFree t names c log (WornType key) = Unit {0}
 FitsFree t names c log (Define key site) = Unit {0}
 FitsFree t names c log (WornDef key) = Unit {0}
-FitsFree t names c log (Call q key site args verdict) = Unit {0}
+FitsFree t names c log (Call key q site args verdict) = Unit {0}
 
 -- a retreat is whole before its call goes on
 abbrev pub FitsWhole : ℕ → List Entry → Act → Type 0
-FitsWhole c log (Hold q key ty changes) = (stands c q.0 log ≡ []) ⊎ IsWhole c q.0 log
-FitsWhole c log (Free q key) = Unit {0}
+FitsWhole c log (Hold key q ty changes) = (stands c q.0 log ≡ []) ⊎ IsWhole c q.0 log
+FitsWhole c log (Free key q) = Unit {0}
 FitsWhole c log (Retype key site) = Unit {0}
 FitsWhole c log (Busy key pins) = Unit {0}
 FitsWhole c log (WornType key) = Unit {0}
 FitsWhole c log (Define key site) = Unit {0}
 FitsWhole c log (WornDef key) = Unit {0}
-FitsWhole c log (Call q key site args verdict) = IsWhole c q.0 log
+FitsWhole c log (Call key q site args verdict) = IsWhole c q.0 log
 
 -- An act that needs a key has that of one of the names. A Free and a Call have theirs from before.
 abbrev pub HasName : List Name → Act → Type 0
-HasName names (Hold q key ty changes) = key.0 < length names
-HasName names (Free q key) = Unit {0}
+HasName names (Hold key q ty changes) = key.0 < length names
+HasName names (Free key q) = Unit {0}
 HasName names (Retype key site) = key.0 < length names
 HasName names (Busy key pins) = key.0 < length names
 HasName names (WornType key) = key.0 < length names
 HasName names (Define key site) = key.0 < length names
 HasName names (WornDef key) = key.0 < length names
-HasName names (Call q key site args verdict) = Unit {0}
+HasName names (Call key q site args verdict) = Unit {0}
 
 -- A body is entered by an own check exactly where there is one that agrees, and else by a fresh one. Own are the checks of the caller's machine, before whose acts these stand.
 abbrev pub IsWay : ℕ → (past : List Act) → ℕ → List Entry → By → Type 0
@@ -188,9 +188,9 @@ IsRightWay c past k before (verdict.IllTyped f) = Unit {0}
 
 -- a Call that enters does so by an own check exactly where there is one that agrees
 abbrev pub EntersBy : ℕ → (past : List Act) → List Entry → Act → Type 0
-EntersBy c past before (Call q key site args v) = IsRightWay c past key.0 before v
-EntersBy c past before (Hold q key ty changes) = Unit {0}
-EntersBy c past before (Free q key) = Unit {0}
+EntersBy c past before (Call key q site args v) = IsRightWay c past key.0 before v
+EntersBy c past before (Hold key q ty changes) = Unit {0}
+EntersBy c past before (Free key q) = Unit {0}
 EntersBy c past before (Retype key site) = Unit {0}
 EntersBy c past before (Busy key pins) = Unit {0}
 EntersBy c past before (WornType key) = Unit {0}

@@ -151,7 +151,7 @@ impl<D: Desk, N: Names> Call<'_, '_, '_, '_, D, N> {
         requires below { key.0 < NAMES_MAX }
         requires free { times ((D.fixed self.old.desk.now).caller, self.old.q.0) (spot key.0 (D.front self.old.desk.now)).calls ≡ 0 }
         ensures same { IsSame (given_of D.fixed self.old) (given_of D.fixed self.new) }
-        ensures held { IfOk result (λ h. (self.new.held.now.items ≡ self.old.held.now.items ++ key ∷ []) × Adds (D.fixed self.old.desk.now).caller (D.front self.old.desk.now) (D.front self.new.desk.now) (Hold self.old.q key h.ty h.changes)) }
+        ensures held { IfOk result (λ h. (self.new.held.now.items ≡ self.old.held.now.items ++ key ∷ []) × Adds (D.fixed self.old.desk.now).caller (D.front self.old.desk.now) (D.front self.new.desk.now) (Hold key self.old.q h.ty h.changes)) }
         ensures legal { IfOk result (λ h. IsLegal (D.fixed self.old.desk.now).limit (D.front self.new.desk.now)) }
         ensures failed { IfErr result (λ e. (e ≡ CallFail.NoMemory) × (self.new.held.now.items ≡ self.old.held.now.items) × (D.front self.new.desk.now ≡ D.front self.old.desk.now)) }
         ensures names { self.new.names ≡ self.old.names }

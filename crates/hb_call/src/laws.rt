@@ -25,10 +25,10 @@ ghost use Rattle.hb_call.specs.Rules.{Began, FitsRules};
 /// A call that was read past its first hold has arguments that its method's type takes, wherever it stands since it began. A Call has no arguments but their kinds.
 pub fn calls_go_on_where_their_arguments_fit()
     ensures past { (t : Table) (limit c : ℕ) (q : CallNo) (key : KeyId) (start log : List Entry) (b : Began c q key start log) (kinds : List Ty) (a : Act) (l : List Act) → IsLegal limit log
-        → IsPart q a → (call_of t q.0 key.0 kinds (Hold q key b.ty b.changes ∷ a ∷ l) ≡ Lost → ⊥)
+        → IsPart q a → (call_of t q.0 key.0 kinds (Hold key q b.ty b.changes ∷ a ∷ l) ≡ Lost → ⊥)
         → (m : MethodTy) × (type_of_key t log key.0 ≡ Some m) × (takes m kinds ≡ true) }
     ensures filled { (t : Table) (names : List Name) (c : ℕ) (log : List Entry) (q : CallNo) (key : KeyId) (site : Option BodySite) (args : ArgKinds) (v : Verdict)
-        → FitsRules t names c log (Call q key site args v) → args ≡ fill (kinds_of args) }
+        → FitsRules t names c log (Call key q site args v) → args ≡ fill (kinds_of args) }
 {}
 
 /// A machine that begins where its caller holds nothing keeps what its own acts alone keep.

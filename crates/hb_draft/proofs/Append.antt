@@ -1,5 +1,5 @@
 -- One node more, whose parts are the last ones in hand: what a draft keeps is kept.
-use Rattle.std.proofs.Common.{◌≡◌, ℕ, ◌+◌, ◌<◌, ◌≤◌, ◌⊎◌, List, [], ◌∷◌, ◌++◌, ◌-◌, map, reverse, take, drop, length, length-drop, Option, Some, None, refl, sym, ap, ◌∙◌}
+use Rattle.std.proofs.Common.{◌≡◌, ℕ, suc, ◌+◌, ◌<◌, ◌≤◌, ◌⊎◌, List, [], ◌∷◌, ◌++◌, ◌-◌, map, reverse, take, drop, length, length-drop, Option, Some, None, refl, sym, ap, ◌∙◌}
 use Rattle.std.proofs.Common.{subst, arith, inl, inr, append_assoc, length-append, option_map, IfSome}
 use Rattle.std.specs.Prelude.{slice_get, nat_eq}
 use Rattle.std.specs.List.{AllByRecursion, IsDistinct}
@@ -9,6 +9,7 @@ use Rattle.hb_types.specs.declared.ids.NodeId.{NodeId}
 use Rattle.hb_types.specs.declared.ids.NameId.{NameId}
 use Rattle.hb_types.specs.declared.types.MethodTy.{MethodTy}
 use Rattle.hb_tree.specs.declared.node.Node.{Node}
+use Rattle.hb_tree.specs.declared.node.Node.TheVariants as node
 use Rattle.hb_tree.specs.declared.node.Placed.{Placed}
 use Rattle.hb_tree.specs.declared.parts.Body.{Body}
 use Rattle.hb_tree.specs.Table.{Table}
@@ -22,12 +23,13 @@ use Rattle.hb_tree.specs.Grows.{Grows, BeginsWith, IsFounded}
 use Rattle.hb_tree.specs.Spelling.{IsText}
 use Rattle.hb_tree.proofs.CanonLemmas.{roots_within}
 use Rattle.hb_tree.proofs.Lists.{each_weaker}
-use Rattle.hb_tree.proofs.Trees.{tree_at_node, tree_alike, parts_weaker, block_seen}
+use Rattle.hb_tree.proofs.Trees.{tree_at_node, tree_alike, parts_weaker, block_seen, node_within}
 use Rattle.hb_tree.proofs.Growth.{parts-kept, expr_node-kept, block_node-kept, node-kept, body-kept, type-kept, root-kept, script-kept, tree_at-grown, all_parts-grown}
 use Rattle.hb_draft.specs.Kept.{IsDraft, IsKept, greatest, heights_of, heights_after}
+use Rattle.hb_draft.specs.Laid.{IsLaid, IsFilled, items_in, items_before}
 use Rattle.hb_draft.specs.Put.{IsOver, last_nodes}
 use Rattle.hb_draft.specs.Unfinished.{IsExprPart, IsBlockPart, KeepsRoots, trees_of}
-use Rattle.hb_draft.proofs.Apart.{apart-taken}
+use Rattle.hb_draft.proofs.{Apart.apart-taken, Laid.items_before-grown}
 use Rattle.hb_draft.proofs.Lists.{each-append, each_both, each-front, each-back, slice_get-append, slice_get-last, slice_get-single, IsDistinct-front, IsDistinct-next}
 use Rattle.hb_draft.proofs.Heights.{height-parts, heights_of-numbers}
 use Rattle.hb_draft.proofs.Parts.{all_parts-within, height-node, expr_node-at, block_node-at}
@@ -94,6 +96,9 @@ pub record IsNext (t : Table) (ids : List NodeId) (ts : List (List ℕ)) (is : L
   pub few_bodies : length bs ≤ 1
   pub types : (k : ℕ) (y : MethodTy × NodeId) → slice_get ys k ≡ Some y → IsTypeIn (appended t ts is bs ys p) (length t.types + k) y
   pub few_types : length t.types + length ys ≤ 65534
+  pub begins : (first many : ℕ) → p.node ≡ node.Block first many → first ≡ length t.items
+  pub laid : numbers_of is ≡ items_in (tree_of (appended t ts is bs ys p) (tree_at t) (length t.nodes) p.node)
+  pub filled : AllByRecursion IsFilled bs
 
 module _ (t : Table) (ids : List NodeId) (ts : List (List ℕ)) (texts : AreTexts t ts) (is : List NodeId) (count : ℕ) (bs : List Body) (ys : List (MethodTy × NodeId)) (p : Placed) where
   abbrev u : Table
@@ -228,6 +233,30 @@ module _ (t : Table) (ids : List NodeId) (ts : List (List ℕ)) (texts : AreText
       scripts = each_weaker (IsScriptIn t) (IsScriptIn u) (script-kept t u appended-grows old_founded) t.scripts draft.program.scripts;
     }
 
+    -- as many items as there are lie before the next node
+    items_until : (j : ℕ) → j ≡ id → length t.items ≡ length (items_before u j)
+    unfolding appended-grows
+    items_until j e =
+        sym (length-map t.items (λ i. i.0))
+        ∙ ap length (draft.laid.items ∙ sym (items_before-grown t u appended-grows old_founded id (omega arith)))
+        ∙ ap (λ k. length (items_before u k)) (sym e)
+
+    laid-next : IsNext t ids ts is count bs ys p → IsLaid u
+    unfolding appended-grows
+    laid-next next = record {
+      blocks = λ j first many e. elim (node_cases j (node.Block first many) e) [
+        | inl h ↦ let within = node_within t j (node.Block first many) h in
+            draft.laid.blocks j first many h ∙ sym (ap length (items_before-grown t u appended-grows old_founded j (omega (arith, within))))
+        | inr h ↦ next.begins first many (sym h.1) ∙ items_until j h.0
+      ];
+      items =
+          map-append (λ i. i.0) t.items is
+          ∙ ap (λ js. js ++ numbers_of is) (draft.laid.items ∙ sym (items_before-grown t u appended-grows old_founded id (omega arith)))
+          ∙ ap (λ js. items_before u id ++ js) (next.laid ∙ sym (ap items_in tree-next))
+          ∙ ap (items_before u) (let more : suc id ≡ length u.nodes = omega (arith, longer) in more);
+      bodies = each-append IsFilled t.bodies bs draft.laid.bodies next.filled;
+    }
+
     kept_within : AllByRecursion (λ j. j < id) (numbers_of kept)
     kept_within = each-front (λ j. j < id) (numbers_of kept) (numbers_of taken) in_hand
 
@@ -257,6 +286,7 @@ module _ (t : Table) (ids : List NodeId) (ts : List (List ℕ)) (texts : AreText
       few_items = omega (arith, draft.few_items, next.few_items, longer, length-append t.items is, ap length both, length-append kept taken, length-taken, length-append kept (record { 0 = id } ∷ []));
       few_texts = omega (arith, draft.few_texts, texts.few, longer);
       few_bodies = omega (arith, draft.few_bodies, next.few_bodies, longer, length-append t.bodies bs);
+      laid = laid-next next;
     }
 
     height-next : height (tree_at u id) ≡ 1 + greatest (heights_of t taken)

@@ -7,9 +7,9 @@ use Rattle.hb_types.specs.declared.ids.NodeId.{NodeId}
 use Rattle.hb_tree.specs.{Table.Table, Tree.TBlock, Nodes.numbers_of, Nodes.items_of, TreeAt.tree_at, TreeAt.forest_at}
 use Rattle.hb_tree.specs.declared.node.Node.TheVariants as node
 use Rattle.hb_tree.specs.declared.node.Placed.{Placed}
-use Rattle.hb_draft.proofs.{Lists.each-back, Puts.hand_after, Hands.hand-exprs, Hands.forest-hand, Steps.placed_at, Steps.enough_nodes}
+use Rattle.hb_draft.proofs.{Laid.ids_of-trees, Lists.each-back, Puts.hand_after, Hands.hand-exprs, Hands.forest-hand, Steps.placed_at, Steps.enough_nodes}
 use Rattle.hb_draft.specs.Kept.{IsDraft, IsKept, heights_of, heights_after}
-use Rattle.hb_draft.specs.Put.{IsOver, last_nodes}
+use Rattle.hb_draft.specs.{Laid.items_in, Put.IsOver, Put.last_nodes}
 use Rattle.hb_draft.specs.Unfinished.{Unfinished, HasExprs, KeepsRoots, Puts, in_hand, trees_of, block_over}
 use Rattle.hb_draft.proofs.Append.{appended, same_texts, IsNext, kept-next, hand-next, roots-next}
 
@@ -72,6 +72,9 @@ module _ (t : Table) (ids : List NodeId) (count : ℕ) (place : ℕ × ℕ) (dra
       few_bodies = omega arith;
       types = λ k y e. absurd (none-some y e);
       few_types = omega (arith, draft.program.limits.types);
+      begins = λ first many e. (let same : node.Block (length t.items) count ≡ node.Block first many = e in cc);
+      laid = sym (ap (λ js. items_in (TBlock (length t.nodes) (forest_at (tree_at t) js))) items ∙ ids_of-trees t is);
+      filled = tt;
     }
 
     block_keeps : (hs : List ℕ) → hs ≡ heights_of t ids → IsKept (with_block t is p) (hand_after t ids count) (heights_after count hs)

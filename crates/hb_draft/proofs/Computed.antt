@@ -11,9 +11,9 @@ use Rattle.hb_tree.specs.declared.node.Method.TheVariants as method
 use Rattle.hb_tree.specs.Tree.{Tree, IsBlock, TDefComputed, TDeclareComputed}
 use Rattle.hb_tree.specs.Nodes.{numbers_of, params_of, block_in, node_at}
 use Rattle.hb_tree.specs.Program.{IsBodyIn, IsTypeIn, IsMethodTyIn, IsDefNode, IsDeclareNode}
-use Rattle.hb_draft.proofs.{Lists.slice_get-last, Lists.slice_get-single, Puts.hand_after, Sites.with_body, Sites.with_type}
+use Rattle.hb_draft.proofs.{Laid.no_block, Lists.slice_get-last, Lists.slice_get-single, Puts.hand_after, Sites.with_body, Sites.with_type}
 use Rattle.hb_draft.specs.Kept.{IsDraft, IsKept, heights_of, heights_after}
-use Rattle.hb_draft.specs.Put.{IsOver, last_nodes}
+use Rattle.hb_draft.specs.{Laid.IsFilled, Put.IsOver, Put.last_nodes}
 use Rattle.hb_draft.specs.Unfinished.{Unfinished, IsExprPart, IsBlockPart, HasExprs, HasNameAndBlock, IsBodyBlock, AreParams, KeepsRoots, PutsComputedDef, PutsComputedDeclare, in_hand, trees_of, unary_over}
 use Rattle.hb_draft.proofs.Append.{appended, appended-grows, founded, same_texts, has_parts, block_part, IsNext, kept-next, hand-next, roots-next}
 use Rattle.hb_draft.proofs.Hands.{length-hand, next-hand, hand-exprs, last_one, last_two}
@@ -42,6 +42,7 @@ pub record CanDefComputed (d : Unfinished) (class : ℕ) (e : NodeId) (b : Body)
   pub itself : b.def.0 ≡ length d.table.nodes
   pub places : length b.params ≡ 4
   pub few : b.count ≤ 4
+  pub filled : IsFilled b
   pub named : params_of b ≡ xs
   pub params : AreParams d.table xs
   pub has : HasNameAndBlock (IsBodyBlock xs) (in_hand d)
@@ -112,6 +113,9 @@ module _ (t : Table) (ids : List NodeId) (draft : IsDraft t ids) (place : ℕ ×
     few_bodies = omega arith;
     types = λ k y i. absurd (none-some y i);
     few_types = omega (arith, draft.program.limits.types);
+    begins = no_block n (length t.items) tt;
+    laid = refl;
+    filled = (can.filled, tt);
   }
 
   def_keeps : (hs : List ℕ) → hs ≡ heights_of t ids → IsKept (with_body t b p) (hand_after t ids 2) (heights_after 2 hs)
@@ -225,6 +229,9 @@ module _ (t : Table) (ids : List NodeId) (draft : IsDraft t ids) (place : ℕ ×
     few_bodies = omega arith;
     types = λ k z i. let same = slice_get-single y z k i in rw (same.0, same.1, add-zero) type_in;
     few_types = omega (arith, can.few);
+    begins = no_block dn (length t.items) tt;
+    laid = refl;
+    filled = tt;
   }
 
   declare_keeps : (hs : List ℕ) → hs ≡ heights_of t ids → IsKept (with_type t y dp) (hand_after t ids 1) (heights_after 1 hs)

@@ -1,8 +1,9 @@
 -- Nothing was declared or built yet.
-use Rattle.std.proofs.Common.{[], None, lit<, arith}
+use Rattle.std.proofs.Common.{[], None, refl, lit<, arith}
 use Rattle.std.specs.List.{IsDistinct}
 use Rattle.std.proofs.lemmas.Option.{none-some}
 use Rattle.hb_tree.specs.Table.{Table}
+use Rattle.hb_tree.specs.declared.node.Node.TheVariants as node
 use Rattle.hb_draft.specs.Kept.{IsDraft}
 
 abbrev pub nothing : Table
@@ -27,4 +28,5 @@ nothing_draft = record {
   few_items = omega arith;
   few_texts = omega arith;
   few_bodies = omega arith;
+  laid = record { blocks = λ id first count e. absurd (none-some (node.Block first count) e); items = refl; bodies = tt };
 }

@@ -3,6 +3,7 @@ pub mod Lists
 pub mod Apart
 pub mod Parts
 pub mod Heights
+pub mod Laid
 pub mod Append
 pub mod Puts
 pub mod Hands
@@ -14,3 +15,5 @@ pub mod Texts
 pub mod Empty
 pub mod MadeLemmas
 pub mod Computed
+pub mod Reached
+pub mod OneTable

@@ -22,7 +22,7 @@ use Rattle.hb_draft.specs.Kept.{IsDraft, IsKept, heights_of}
 use Rattle.hb_draft.specs.Put.{last_nodes}
 use Rattle.hb_draft.specs.Unfinished.{Unfinished, HasBlock, IsRootBlock, KeepsRoots, AddsClass, AddsName, AddsSetup, AddsScript, in_hand, trees_of}
 use Rattle.hb_draft.specs.Words.{with_word}
-use Rattle.hb_draft.proofs.Apart.{apart-setup, apart-script}
+use Rattle.hb_draft.proofs.{Apart.apart-setup, Apart.apart-script, Laid.laid-named}
 use Rattle.hb_draft.proofs.Lists.{each-append, each-front, each-back, IsDistinct-front}
 use Rattle.hb_draft.proofs.WordLists.{with_word-new, with_word-begins, with_word-each, with_word-length, with_word-apart}
 use Rattle.hb_draft.proofs.Append.{founded, roots-grown, trees_of-grown, heights_of-grown, setup-kept, script_trees, setup_tree}
@@ -101,6 +101,7 @@ module _ (t : Table) (cs ns : List (List ℕ)) (st : Option NodeId) (ss : List (
       few_items = draft.few_items;
       few_texts = draft.few_texts;
       few_bodies = draft.few_bodies;
+      laid = laid-named t u named-grows (founded t draft.program) refl refl refl draft.laid;
     }
 
     pub kept-named : IsDistinct nat_eq ((all_parts t ++ roots u) ++ numbers_of ids) → (hs : List ℕ) → hs ≡ heights_of t ids → IsKept u ids hs
@@ -125,6 +126,7 @@ draft-fewer t ids k draft =
       few_items = omega (arith, draft.few_items, length-take k ids);
       few_texts = draft.few_texts;
       few_bodies = draft.few_bodies;
+      laid = draft.laid;
     }
 
 module _ (t : Table) (ids : List NodeId) (draft : IsDraft t ids) (word : List ℕ) where

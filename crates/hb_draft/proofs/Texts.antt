@@ -6,7 +6,7 @@ use Rattle.hb_types.specs.declared.ids.NodeId.{NodeId}
 use Rattle.hb_tree.specs.{Spelling.IsText, Table.Table, Tree.TText, Nodes.numbers_of}
 use Rattle.hb_tree.specs.declared.node.Node.TheVariants as node
 use Rattle.hb_tree.specs.declared.node.Placed.{Placed}
-use Rattle.hb_draft.proofs.{Puts.hand_after, Hands.last_none, Steps.placed_at}
+use Rattle.hb_draft.proofs.{Laid.no_block, Puts.hand_after, Hands.last_none, Steps.placed_at}
 use Rattle.hb_draft.specs.{Put.IsOver, Words.with_word}
 use Rattle.hb_draft.specs.Kept.{IsDraft, IsKept, heights_of, heights_after}
 use Rattle.hb_draft.specs.Unfinished.{Unfinished, KeepsRoots, PutsText, in_hand, trees_of}
@@ -63,6 +63,9 @@ module _ (t : Table) (ids : List NodeId) (draft : IsDraft t ids) (place : ℕ ×
     few_bodies = omega arith;
     types = λ j y e. absurd (none-some y e);
     few_types = omega (arith, draft.program.limits.types);
+    begins = no_block p.node (length t.items) tt;
+    laid = refl;
+    filled = tt;
   }
 
   text_keeps : (hs : List ℕ) → hs ≡ heights_of t ids → IsKept (with_text t ts p) (hand_after t ids 0) (heights_after 0 hs)

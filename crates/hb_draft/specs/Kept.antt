@@ -8,6 +8,7 @@ use Rattle.hb_tree.specs.Counts.{height}
 use Rattle.hb_tree.specs.TreeAt.{tree_at}
 use Rattle.hb_tree.specs.Program.{IsProgram, all_parts}
 use Rattle.hb_tree.specs.Roots.{roots}
+use Rattle.hb_draft.specs.Laid.{IsLaid}
 
 -- The lists are a program's at each step, and no node is a part, a root or in hand at two places.
 -- An item was taken from the hand, a text and a body came with a node; so their numbers fit
@@ -18,6 +19,7 @@ pub record IsDraft (t : Table) (hand : List NodeId) : Type 0 where
   pub few_items : length t.items + length hand ≤ length t.nodes
   pub few_texts : length t.texts ≤ length t.nodes
   pub few_bodies : length t.bodies ≤ length t.nodes
+  pub laid : IsLaid t
 
 -- the greatest of these numbers, and 0 where there is none
 abbrev pub greatest : List ℕ → ℕ

@@ -5,8 +5,9 @@ ghost use Rattle.std.specs.List.{list_any};
 ghost use Rattle.hb_tree.specs.Tree.{TNil, TSelf, TInt, TVar, TNew, TAssign, TPrint, TToStr, TNot};
 ghost use Rattle.hb_tree.specs.Counts.{height};
 ghost use Rattle.hb_tree.specs.Spelling.{IsClassName, IsName, IsText};
-ghost use Rattle.hb_tree.specs.Program.{IsMethodTyIn, IsProgram};
+ghost use Rattle.hb_tree.specs.Program.{IsExprNode, IsMethodTyIn, IsProgram};
 ghost use Rattle.hb_tree.specs.Roots.{IsReachedOnce};
+ghost use Rattle.hb_draft.specs.Laid.{IsLaid};
 
 use crate::pieces::{arg_list, body_of, last_of, placed, push_node};
 use crate::words::Words;
@@ -87,7 +88,7 @@ impl Draft {
         ensures { option_map (λ c. c.0) result ≡ position (bytes_eq name.now) self.now.table.classes }
     {
         let i = self.classes.find(name)?;
-        Some(ClassId(i as u16))
+        Some(ClassId(i as u8))
     }
 
     /// Declares one more class.
@@ -100,7 +101,7 @@ impl Draft {
         ensures made { OnOk result (made_of self.new ≡ with_class (made_of self.old) name.now) }
     {
         let i = self.classes.number(name)?;
-        Ok(ClassId(i as u16))
+        Ok(ClassId(i as u8))
     }
 
     /// The number of a name, which is a new one where the name did not occur before.
@@ -532,6 +533,7 @@ impl Draft {
         ensures table { IfOk result (λ p. p ≡ self.table) }
         ensures program { IfOk result IsProgram }
         ensures once { IfOk result IsReachedOnce }
+        ensures laid { IfOk result IsLaid }
     {
         let Draft {
             alloc,
@@ -568,9 +570,10 @@ impl Draft {
         self.hand[self.hand.len() - 1 - depth]
     }
 
-    // The next node, in place of the last `count` in hand, which are its parts.
+    // The next node, an expression, in place of the last `count` in hand, which are its parts.
     fn put(&mut self, node: Placed, count: usize) -> Result<(), AllocError>
-        requires { CanPut self.old node count }
+        requires over { CanPut self.old node count }
+        requires expr { IsExprNode (Some node.node) }
         ensures { OnOk result (PutsNode self.old self.new node count) }
     {
         push_node(

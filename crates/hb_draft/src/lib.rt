@@ -2,7 +2,9 @@
 #![tactic(auto)]
 
 mod draft;
+mod laws;
 mod pieces;
 mod words;
 
 pub use draft::Draft;
+pub use laws::one_table;

@@ -1,9 +1,10 @@
 //! Pieces that the steps of a draft share: lists of nodes, and lists of a fixed length.
 
-ghost use Rattle.std.specs.Prelude.{◌≡◌, ◌+◌, ◌-◌, ◌<◌, ◌≤◌, [], ◌∷◌, ◌++◌, OnOk, OnErr, length, map, take};
+ghost use Rattle.std.specs.Prelude.{◌≡◌, ◌+◌, ◌-◌, ◌<◌, ◌≤◌, [], ◌∷◌, ◌++◌, All, OnOk, OnErr, drop, length, map, take};
 ghost use Rattle.std.specs.List.{AllByRecursion};
 ghost use Rattle.hb_tree.specs.Nodes.{args_of, params_of};
 ghost use Rattle.hb_tree.specs.Program.{IsArgList};
+ghost use Rattle.hb_draft.specs.Laid.{IsFilled};
 ghost use Rattle.hb_draft.specs.Put.{last_nodes};
 ghost use Rattle.hb_draft.specs.Kept.{greatest, heights_after};
 
@@ -93,6 +94,7 @@ pub fn body_of(def: NodeId, block: NodeId, params: &[NameId]) -> Body
     ensures params { params_of result ≡ map (λ x. x.0) params.now }
     ensures places { length result.params ≡ 4 }
     ensures few { result.count ≤ 4 }
+    ensures filled { IsFilled result }
 {
     Body {
         def,
@@ -102,11 +104,12 @@ pub fn body_of(def: NodeId, block: NodeId, params: &[NameId]) -> Body
     }
 }
 
-/// The places past the parameters have no meaning.
+/// The places past the parameters have no meaning, and are filled with the name of number 0.
 fn param_list(params: &[NameId]) -> [NameId; 4]
     requires { length params.now ≤ 4 }
     ensures params { take (length params.now) result ≡ params.now }
     ensures places { length result ≡ 4 }
+    ensures filled { All (λ x. x.0 ≡ 0) (drop (length params.now) result) }
 {
     let mut list = [NameId(0); 4];
     list[..params.len()].copy_from_slice(params);

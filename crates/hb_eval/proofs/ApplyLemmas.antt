@@ -56,7 +56,7 @@ begins_reads known t c log frames old new move h same =
     ∙ ap (λ fs. stands (world t names) (onto move.push (onto move.under ks)) fs move.hand new read journal) (sym (frames_stay frames old new m.keeps.below)))
 
 no_call : (way : By) (a : Act) → is_call a ≡ false → is_entered way a ≡ false
-no_call way (Call q key site args v) h = absurd (cc)
+no_call way (Call key q site args v) h = absurd (cc)
 no_call _ _ _ = refl
 
 counts_none : (p : Act → Bool) (l : List Act) → AllByRecursion (λ a. p a ≡ false) l → count_by p l ≡ 0

@@ -54,13 +54,13 @@ kinds : ArgKinds
 kinds = record { count = 1; kinds = ty.Int ∷ ty.Nil ∷ ty.Nil ∷ ty.Nil ∷ [] }
 
 hold : ℕ → Act
-hold q = act.Hold (record { 0 = q }) (record { 0 = 0 }) (Some (record { 0 = 0 })) 1
+hold q = act.Hold (record { 0 = 0 }) (record { 0 = q }) (Some (record { 0 = 0 })) 1
 
 free : ℕ → Act
-free q = act.Free (record { 0 = q }) (record { 0 = 0 })
+free q = act.Free (record { 0 = 0 }) (record { 0 = q })
 
 call : ℕ → ℕ → Verdict → Act
-call q site v = act.Call (record { 0 = q }) (record { 0 = 0 }) (Some (record { 0 = site })) kinds v
+call q site v = act.Call (record { 0 = 0 }) (record { 0 = q }) (Some (record { 0 = site })) kinds v
 
 -- `A.new.f(7)`
 asks : Tree
@@ -93,7 +93,7 @@ unfolding run stopped one program at_place asks hold free kinds call_in then_do 
 full = refl
 
 -- where its type does not take the argument, it finds no full list
-unfit : run 100 (act.Hold (record { 0 = 1 }) (record { 0 = 0 }) (Some (record { 0 = 1 })) 1 ∷ free 1 ∷ []) (one asks) ≡ None
+unfit : run 100 (act.Hold (record { 0 = 0 }) (record { 0 = 1 }) (Some (record { 0 = 1 })) 1 ∷ free 1 ∷ []) (one asks) ≡ None
 unfolding run one program at_place asks free kinds call_in then_do begin tree_at tree_down
 unfit = refl
 

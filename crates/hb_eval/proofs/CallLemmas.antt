@@ -75,7 +75,7 @@ call_reads t names (suc room) id m v c key vs s some h found =
 freed_keys : (q : ℕ) (hs : List Stand) (keys : List KeyId) (l : List Act) → map (λ (h : Stand). h.key) hs ≡ map (λ (k : KeyId). k.0) keys → freed q hs l ≡ freed q (holds_of keys) l
 freed_keys q [] (k ∷ keys) l e = absurd (cc)
 freed_keys q (h ∷ hs) [] l e = absurd (cc)
-freed_keys q (h ∷ hs) (k ∷ keys) (Free r key ∷ l) e =
+freed_keys q (h ∷ hs) (k ∷ keys) (Free key r ∷ l) e =
     let same : h.key ≡ k.0 = cc in
     let rest : map (λ (h : Stand). h.key) hs ≡ map (λ (k : KeyId). k.0) keys = cc in
     ap (λ n. if nat_eq r.0 q && nat_eq key.0 n then freed q hs l else None) same

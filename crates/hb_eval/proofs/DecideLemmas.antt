@@ -150,18 +150,18 @@ found_stays was (Some n) name k e = name_stays was n name k e
 
 asked_stays : (names was : List Name) (l : List Act) (name : Name) (k : ℕ) → place was name ≡ Some k → place (asked_after names was l) name ≡ Some k
 asked_stays names was [] name k e = e
-asked_stays names was (Hold q key ty changes ∷ l) name k e = asked_stays names (with_key names was key.0) l name k (found_stays was (slice_get names key.0) name k e)
-asked_stays names was (Free q key ∷ l) name k e = asked_stays names was l name k e
+asked_stays names was (Hold key q ty changes ∷ l) name k e = asked_stays names (with_key names was key.0) l name k (found_stays was (slice_get names key.0) name k e)
+asked_stays names was (Free key q ∷ l) name k e = asked_stays names was l name k e
 asked_stays names was (Retype key site ∷ l) name k e = asked_stays names (with_key names was key.0) l name k (found_stays was (slice_get names key.0) name k e)
 asked_stays names was (Busy key pins ∷ l) name k e = asked_stays names (with_key names was key.0) l name k (found_stays was (slice_get names key.0) name k e)
 asked_stays names was (WornType key ∷ l) name k e = asked_stays names (with_key names was key.0) l name k (found_stays was (slice_get names key.0) name k e)
 asked_stays names was (Define key site ∷ l) name k e = asked_stays names (with_key names was key.0) l name k (found_stays was (slice_get names key.0) name k e)
 asked_stays names was (WornDef key ∷ l) name k e = asked_stays names (with_key names was key.0) l name k (found_stays was (slice_get names key.0) name k e)
-asked_stays names was (Call q key site args v ∷ l) name k e = asked_stays names was l name k e
+asked_stays names was (Call key q site args v ∷ l) name k e = asked_stays names was l name k e
 
 -- the acts of a call ask for its own name first
 asked_first : (t : Table) (names was : List Name) (q k : ℕ) (kinds : List Ty) (made : List Act) (name : Name) → place names name ≡ Some k → call_of t q k kinds made ≡ FullAt [] → (j : ℕ) × (place (asked_after names was made) name ≡ Some j)
-asked_first t names was q k kinds (Hold r key ty changes ∷ l) name found e = go (nat_eq r.0 q && nat_eq key.0 k) refl e
+asked_first t names was q k kinds (Hold key r ty changes ∷ l) name found e = go (nat_eq r.0 q && nat_eq key.0 k) refl e
   where
     go : (b : Bool) → (nat_eq r.0 q && nat_eq key.0 k) ≡ b → (if b then decision (takes_at t ty kinds) q k kinds (record { key = key.0; ty = ty; changes = changes } ∷ []) l else Lost) ≡ FullAt [] → (j : ℕ) × (place (asked_after names (with_key names was key.0) l) name ≡ Some j)
     go true is e =

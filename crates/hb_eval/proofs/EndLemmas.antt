@@ -39,9 +39,9 @@ frees_read q keys s rest go h =
     ∙ ap (λ l. go (record s { read = s.read ++ tagged s.begun l; journal = rest })) (ap (acts_before rest) h ∙ before_rest (frees q keys) rest)
 
 -- no Free is a Call
-pub frees_apart : (p : Act → Bool) → ((q : CallNo) (k : KeyId) → p (Free q k) ≡ false) → (q : CallNo) (keys : List KeyId) → count_by p (frees q keys) ≡ 0
+pub frees_apart : (p : Act → Bool) → ((q : CallNo) (k : KeyId) → p (Free k q) ≡ false) → (q : CallNo) (keys : List KeyId) → count_by p (frees q keys) ≡ 0
 frees_apart p h q [] = refl
-frees_apart p h q (k ∷ keys) = sum_by-cons (λ x. cond (p x) 1 0) (Free q k) (frees q keys) ∙ ap (λ b. cond b 1 0 + count_by p (frees q keys)) (h q k) ∙ (let r = frees_apart p h q keys in omega (arith, r))
+frees_apart p h q (k ∷ keys) = sum_by-cons (λ x. cond (p x) 1 0) (Free k q) (frees q keys) ∙ ap (λ b. cond b 1 0 + count_by p (frees q keys)) (h q k) ∙ (let r = frees_apart p h q keys in omega (arith, r))
 
 frees_tallies : (old new : State) (q : CallNo) (keys : List KeyId) → SameCalls old new → Tallies old new (frees q keys)
 frees_tallies old new q keys h = record {

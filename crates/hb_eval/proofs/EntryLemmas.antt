@@ -109,7 +109,7 @@ enter_tallies t old q k kinds site by.Fresh held made e apart =
       shared = call_counts (is_entered by.Shared) (λ _ _ _ _. refl) (λ _ _. refl) t q k kinds site (verdict.Enter by.Fresh) held false (λ _ _ _. refl) made e;
     }
 
-no_way : (way : By) (v : Verdict) (e : Stop) → refusal v ≡ Some e → (q : CallNo) (key : _) (site : _) (args : ArgKinds) → is_entered way (Call q key site args v) ≡ false
+no_way : (way : By) (v : Verdict) (e : Stop) → refusal v ≡ Some e → (q : CallNo) (key : _) (site : _) (args : ArgKinds) → is_entered way (Call key q site args v) ≡ false
 no_way way (verdict.Enter w) e h q key site args = absurd (cc)
 no_way _ _ _ _ _ _ _ _ = refl
 

@@ -91,8 +91,8 @@ module _ (t : Table) (names known : List Name) (longer : IsPrefix names known) w
   call_longer hs k (verdict.Enter by.Fresh) (Some site) old new h = takes_longer hs k site old new h
   call_longer _ _ _ _ _ _ h = h
 
-  one_longer : (before : List Act) (a : Act) (old new : Option (List Derivation)) → GathersOne t names before a old new → GathersOne t known before a old new
-  one_longer before (Call q key site args v) old new h = call_longer (standing q.0 before) key.0 v site old new h
+  pub one_longer : (before : List Act) (a : Act) (old new : Option (List Derivation)) → GathersOne t names before a old new → GathersOne t known before a old new
+  one_longer before (Call key q site args v) old new h = call_longer (standing q.0 before) key.0 v site old new h
   one_longer _ _ _ _ h = h
 
   gathers_longer : (before l : List Act) (old new : Option (List Derivation)) → Gathers t names before l old new → Gathers t known before l old new
@@ -124,7 +124,7 @@ none_here true n e = absurd (omega (arith, e))
 none_here false n e = (refl, omega (arith, e))
 
 adds_none : (t : Table) (names : List Name) (before : List Act) (a : Act) (o : Option (List Derivation)) → is_entered by.Fresh a ≡ false → GathersOne t names before a o o
-adds_none t names before (Call q key site args (verdict.Enter by.Fresh)) o h = absurd (cc h)
+adds_none t names before (Call key q site args (verdict.Enter by.Fresh)) o h = absurd (cc h)
 adds_none _ _ _ _ _ _ = refl
 
 gathers_none : (t : Table) (names : List Name) (before l : List Act) (o : Option (List Derivation)) → count_by (is_entered by.Fresh) l ≡ 0 → Gathers t names before l o o
@@ -164,25 +164,25 @@ snoc_split (h ∷ a) x (k ∷ b) y e some =
 
 -- the last act of a decided call is its Call
 last_call : (a : Asks) (names : List Name) (old mid : List Entry) (key : KeyId) (v : Verdict) (site : Option BodySite) (held : List KeyId) → IsDecidedOf a names old mid key v site held
-    → (before : List Entry) × (acts a.door.caller mid ≡ acts a.door.caller before ++ Call a.q key site a.args v ∷ [])
+    → (before : List Entry) × (acts a.door.caller mid ≡ acts a.door.caller before ++ Call key a.q site a.args v ∷ [])
 last_call a names old mid key v site held d =
-    let P : Fixed → CallNo → KeyId → ArgKinds → Type 0 = λ door q key args. (before : List Entry) × (mid ≡ before ++ entry door.caller (Call q key site args v) ∷ []) in
+    let P : Fixed → CallNo → KeyId → ArgKinds → Type 0 = λ door q key args. (before : List Entry) × (mid ≡ before ++ entry door.caller (Call key q site args v) ∷ []) in
     let x : P a.door a.q key a.args =
     subst (λ (y : Fixed). P y a.q key a.args) d.door
     (subst (λ (y : CallNo). P d.given.door y key a.args) d.q
     (subst (λ (y : KeyId). P d.given.door d.given.q y a.args) d.called
     (subst (λ (y : ArgKinds). P d.given.door d.given.q d.given.key y) d.args (d.decided.before, d.decided.is)))) in
-    (x.0, ap (acts a.door.caller) x.1 ∙ acts_append a.door.caller x.0 (entry a.door.caller (Call a.q key site a.args v) ∷ []) ∙ ap (λ l. acts a.door.caller x.0 ++ l) (own_act a.door.caller (Call a.q key site a.args v)))
+    (x.0, ap (acts a.door.caller) x.1 ∙ acts_append a.door.caller x.0 (entry a.door.caller (Call key a.q site a.args v) ∷ []) ∙ ap (λ l. acts a.door.caller x.0 ++ l) (own_act a.door.caller (Call key a.q site a.args v)))
 
 -- what it collects is the derivation of its Call
 takes_last : (t : Table) (names asked : List Name) (c : ℕ) (before now : List Entry) (cache : List (Option Kept)) (q : CallNo) (key : KeyId) (site : BodySite) (args : ArgKinds) (old new : Option (List Derivation))
-    → IsTrueCache t names asked c now cache → acts c now ≡ acts c before ++ Call q key (Some site) args (verdict.Enter by.Fresh) ∷ [] → CollectsFew t names (stands c q.0 now) cache key.0 site old new → TakesOne t names (standing q.0 (acts c before)) key.0 site old new
+    → IsTrueCache t names asked c now cache → acts c now ≡ acts c before ++ Call key q (Some site) args (verdict.Enter by.Fresh) ∷ [] → CollectsFew t names (stands c q.0 now) cache key.0 site old new → TakesOne t names (standing q.0 (acts c before)) key.0 site old new
 takes_last t names asked c before now cache q key site args None new own is h = h
 takes_last t names asked c before now cache q key site args (Some old) new own is h = (λ few. one (h.0 few), h.1)
   where
     one : CollectsOne t names (stands c q.0 now) cache key.0 site old new → TakesLast t names (standing q.0 (acts c before)) key.0 site old new
     one x =
-        let held : stands c q.0 now ≡ standing q.0 (acts c before) = ap (standing q.0) is ∙ standing_stays q.0 (acts c before) (Call q key (Some site) args (verdict.Enter by.Fresh)) refl in
+        let held : stands c q.0 now ≡ standing q.0 (acts c before) = ap (standing q.0) is ∙ standing_stays q.0 (acts c before) (Call key q (Some site) args (verdict.Enter by.Fresh)) refl in
         let kept = own.each key.0 x.kept x.at in
         record {
           derivation = x.copy;
@@ -207,7 +207,7 @@ shares_entered a names asked past now cache f way old new d own h = each way d h
     c = a.door.caller
 
     -- a call that entered on no fresh check
-    other : (way : By) → is_entered by.Fresh (Call a.q f.key (Some f.body) a.args (verdict.Enter way)) ≡ false → ((r : CallNo) (key : KeyId) (args : ArgKinds) → is_entered by.Fresh (Call r key (Some f.body) args (verdict.Enter way)) ≡ false)
+    other : (way : By) → is_entered by.Fresh (Call f.key a.q (Some f.body) a.args (verdict.Enter way)) ≡ false → ((r : CallNo) (key : KeyId) (args : ArgKinds) → is_entered by.Fresh (Call key r (Some f.body) args (verdict.Enter way)) ≡ false)
         → IsDecidedOf a names past now f.key (verdict.Enter way) (Some f.body) f.held.items → collected new ≡ collected old → Shares a.t names a.door.caller past now old new
     other way no_more each d left =
         let dec = decision_of a names past now f.key (verdict.Enter way) (Some f.body) f.held.items d in
@@ -219,7 +219,7 @@ shares_entered a names asked past now cache f way old new d own h = each way d h
     each by.Shared d h = other by.Shared refl (λ _ _ _. refl) d h
     each by.Fresh d h =
         let dec = decision_of a names past now f.key (verdict.Enter by.Fresh) (Some f.body) f.held.items d in
-        let call : Act = Call a.q f.key (Some f.body) a.args (verdict.Enter by.Fresh) in
+        let call : Act = Call f.key a.q (Some f.body) a.args (verdict.Enter by.Fresh) in
         let one = call_counts (is_entered by.Fresh) (λ _ _ _ _. refl) (λ _ _. refl) a.t a.q.0 f.key.0 (kinds_of a.args) (Some f.body) (verdict.Enter by.Fresh) (stands a.door.caller a.q.0 now) true (λ _ _ _. refl) dec.made (ap (call_of a.t a.q.0 f.key.0 (kinds_of a.args)) (sym (append-nil dec.made)) ∙ dec.reads []) in
         let last = last_call a names past now f.key (verdict.Enter by.Fresh) (Some f.body) f.held.items d in
         let some : dec.made ≡ [] → ⊥ = λ e. let n = ap (count_by (is_entered by.Fresh)) e in absurd (omega (arith, n, one)) in

@@ -25,9 +25,9 @@ use Rattle.hb_call.proofs.GrowthLemmas.{each_adds}
 
 -- the act is no part of a call
 abbrev pub IsChange : Act → Type 0
-IsChange (Hold q key ty changes) = ⊥
-IsChange (Free q key) = ⊥
-IsChange (Call q key site args verdict) = ⊥
+IsChange (Hold key q ty changes) = ⊥
+IsChange (Free key q) = ⊥
+IsChange (Call key q site args verdict) = ⊥
 IsChange _ = Unit {0}
 
 -- One act on the key that is no part of a call came to the caller's own.
@@ -47,23 +47,23 @@ type_changes c old new key site (typed.Busy pins) h = record { act = Busy key pi
 type_changes c old new key site typed.Worn h = record { act = WornType key; adds = h; apart = tt; about = refl }
 
 has_no_part : (q : ℕ) (a : Act) → IsChange a → has_part q a ≡ false
-has_no_part q (Hold p key ty changes) h = absurd h
-has_no_part q (Free p key) h = absurd h
-has_no_part q (Call p key site args verdict) h = absurd h
+has_no_part q (Hold key p ty changes) h = absurd h
+has_no_part q (Free key p) h = absurd h
+has_no_part q (Call key p site args verdict) h = absurd h
 has_no_part _ _ _ = refl
 
 -- where its key is that of a name, it fits the rules
 fits_any : (t : Table) (names : List Name) (c : ℕ) (before : List Entry) (a : Act) → IsChange a → key_of a < length names → FitsRules t names c before a
-fits_any t names c before (Hold p key ty changes) h named = absurd h
-fits_any t names c before (Free p key) h named = absurd h
-fits_any t names c before (Call p key site args verdict) h named = absurd h
+fits_any t names c before (Hold key p ty changes) h named = absurd h
+fits_any t names c before (Free key p) h named = absurd h
+fits_any t names c before (Call key p site args verdict) h named = absurd h
 fits_any _ _ _ _ _ _ named = record { row = tt; hold = tt; free = tt; whole = tt; named = named }
 
 -- it asks for the name of its key
 asks_key : (names asked : List Name) (a : Act) → IsChange a → asked_by names asked a ≡ with_key names asked (key_of a)
-asks_key names asked (Hold p key ty changes) h = absurd h
-asks_key names asked (Free p key) h = absurd h
-asks_key names asked (Call p key site args verdict) h = absurd h
+asks_key names asked (Hold key p ty changes) h = absurd h
+asks_key names asked (Free key p) h = absurd h
+asks_key names asked (Call key p site args verdict) h = absurd h
 asks_key _ _ _ _ = refl
 
 pub changes_stand : (c k : ℕ) (old new : List Entry) → Changes c k old new → (q : ℕ) → stands c q new ≡ stands c q old

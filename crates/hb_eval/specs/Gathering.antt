@@ -46,7 +46,7 @@ GathersCall t names held k v site old new = new ≡ old
 
 -- what an act adds behind these acts: no act but a Call adds anything
 abbrev pub GathersOne : Table → List Name → (before : List Act) → Act → (old new : Option (List Derivation)) → Type 0
-GathersOne t names before (Call q key site args v) old new = GathersCall t names (standing q.0 before) key.0 v site old new
+GathersOne t names before (Call key q site args v) old new = GathersCall t names (standing q.0 before) key.0 v site old new
 GathersOne t names before _ old new = new ≡ old
 
 -- what these acts add, one behind the other

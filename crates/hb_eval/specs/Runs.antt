@@ -49,7 +49,7 @@ abbrev pub script_run : Table → List Name → Calls → (block steps : ℕ) �
 script_run t names call block steps journal = run_of (ev t names call (tree_at t block) (start steps journal))
 
 abbrev pub is_call : Act → Bool
-is_call (Call q key site args verdict) = true
+is_call (Call key q site args verdict) = true
 is_call _ = false
 
 abbrev pub same_way : By → By → Bool
@@ -63,7 +63,7 @@ enters way (Enter found) = same_way way found
 enters way _ = false
 
 abbrev pub is_entered : By → Act → Bool
-is_entered way (Call q key site args verdict) = enters way verdict
+is_entered way (Call key q site args verdict) = enters way verdict
 is_entered way _ = false
 
 -- how many calls were decided, and how many of them entered by each way

@@ -145,8 +145,8 @@ impl<D: Desk, B: Begun> Desk for Noting<D, B> {
     fn hold(&mut self, q: CallNo, key: KeyId) -> Held {
         let held = self.desk.hold(q, key);
         let act = Act::Hold {
-            q,
             key,
+            q,
             ty: held.ty,
             changes: held.changes,
         };
@@ -160,7 +160,7 @@ impl<D: Desk, B: Begun> Desk for Noting<D, B> {
             &mut self.notes,
             &mut self.missed,
             self.caller,
-            Act::Free { q, key },
+            Act::Free { key, q },
         );
     }
 
@@ -194,8 +194,8 @@ impl<D: Desk, B: Begun> Desk for Noting<D, B> {
         match self.desk.decide(q, key, owner, look, args, verdict) {
             Ok(()) => {
                 let act = Act::Call {
-                    q,
                     key,
+                    q,
                     site: look.site,
                     args,
                     verdict,

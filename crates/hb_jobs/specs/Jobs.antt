@@ -1,8 +1,9 @@
 -- The job that the words ask for, or none.
-use Rattle.std.specs.Prelude.{ℕ, Bool, true, false, List, codes, bytes_eq, is_none, is_some, map, option_map, ◌&&◌, ◌||◌, Some, None, if◌then◌else◌}
+use Rattle.std.specs.Prelude.{ℕ, Bool, true, false, List, codes, bytes_eq, is_none, is_some, map, option_map, not, ◌&&◌, ◌||◌, Some, None, if◌then◌else◌}
 use Rattle.std.specs.declared.option.Option.{Option}
 use Rattle.std.specs.Option.{option_map_or}
 use Rattle.clap.specs.Words.{Text}
+use Rattle.hb_gen.specs.declared.texts.TheConstants.{NUMBER_MAX}
 use Rattle.hb_jobs.specs.CommandLine.{has_matches}
 use Rattle.hb_jobs.specs.Given.{is_traced, value_of}
 use Rattle.hb_jobs.specs.Numbers.{number_of}
@@ -19,9 +20,13 @@ pub record Options : Type 0 where
   pub steps : ℕ
   pub changes : ℕ
 
--- what may be wanted
+-- what may be wanted: that a text is run, that the derivations of its checks are written, or that written ones are verified; that the generated text of a size is written, or that it is run
 pub data Wanted : Type 0 where
   Run : (options : Options) → Wanted
+  Derive : Wanted
+  Verify : Wanted
+  Gen : (size : ℕ) → Wanted
+  Work : (size : ℕ) → Wanted
 
 -- a value that was left out is the usual one, and another one is a number in its range
 abbrev pub number_or : (usual least most : ℕ) → Option Text → Option ℕ
@@ -51,16 +56,42 @@ options_in (Some order) trace steps changes = options_by order trace (steps_in (
 abbrev pub options_of : List Text → Option Options
 options_of words = options_in (order_in (value_of words (codes "order"))) (is_traced words) (value_of words (codes "steps")) (value_of words (codes "versions"))
 
--- the one command is to run, and it has no number
-abbrev pub runs : (command number : Option Text) → Bool
-runs command number = option_map_or (λ text. bytes_eq text (codes "run")) command false && is_none number
+-- the command has this name
+abbrev pub is_named : Text → Option Text → Bool
+is_named name command = option_map_or (λ text. bytes_eq text name) command false
 
-abbrev pub is_run : List Text → Bool
-is_run words = runs (value_of words (codes "command")) (value_of words (codes "n"))
+-- a run has no number
+abbrev pub run_in : (number : Option Text) → Option Options → Option Wanted
+run_in None options = option_map Run options
+run_in (Some number) options = None
+
+-- the words have no option
+abbrev pub is_plain : (order steps versions : Option Text) → (trace : Bool) → Bool
+is_plain order steps versions trace = is_none order && is_none steps && is_none versions && not trace
+
+abbrev pub is_plain_in : List Text → Bool
+is_plain_in words = is_plain (value_of words (codes "order")) (value_of words (codes "steps")) (value_of words (codes "versions")) (is_traced words)
+
+-- a command that stands alone has no option and no number
+abbrev pub alone_in : (plain : Bool) → (number : Option Text) → Wanted → Option Wanted
+alone_in plain number wanted = if plain && is_none number then Some wanted else None
+
+-- a size, where there is no option
+abbrev pub size_in : (plain : Bool) → (number : Option Text) → Option ℕ
+size_in true (Some text) = number_of 1 NUMBER_MAX text
+size_in _ _ = None
+
+-- what the named command does, where the words give it what it takes, and nothing else
+abbrev pub job_by : (command number : Option Text) → Option Options → (plain : Bool) → Option Wanted
+job_by command number options plain = if is_named (codes "run") command then run_in number options else
+    (if is_named (codes "derive") command then alone_in plain number Derive else
+    (if is_named (codes "verify") command then alone_in plain number Verify else
+    (if is_named (codes "gen") command then option_map Gen (size_in plain number) else
+    (if is_named (codes "work") command then option_map Work (size_in plain number) else None))))
 
 -- the words have a meaning as a command line, name a command, and give it what it takes
 abbrev pub job_of : List Text → Option Wanted
-job_of words = if has_matches words && is_run words then option_map Run (options_of words) else None
+job_of words = if has_matches words then job_by (value_of words (codes "command")) (value_of words (codes "n")) (options_of words) (is_plain_in words) else None
 
 -- what the code's values tell
 abbrev pub options_told : RunOptions → Options
@@ -68,3 +99,7 @@ options_told o = record { order = option_map (λ order. map (λ c. c.0) order.it
 
 abbrev pub told : Job → Wanted
 told (job.Run options) = Run (options_told options)
+told job.Derive = Derive
+told job.Verify = Verify
+told (job.Gen size) = Gen size.number
+told (job.Work size) = Work size.number

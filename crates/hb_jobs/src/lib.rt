@@ -9,4 +9,4 @@ pub mod options;
 mod orders;
 
 pub use jobs::job_asked;
-pub use options::{Job, RunOptions};
+pub use options::{Job, RunOptions, Size};

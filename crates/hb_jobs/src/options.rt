@@ -1,6 +1,7 @@
 //! What the words may ask for.
 
 ghost use Rattle.std.specs.Prelude.{◌≤◌};
+ghost use Rattle.hb_gen.specs.declared.texts.TheConstants.{NUMBER_MAX};
 ghost use Rattle.hb_jobs.specs.declared.options.TheConstants.{CHANGES_MAX};
 
 use hb_types::ids::CallerId;
@@ -16,6 +17,13 @@ pub const STEPS_SEEN_MAX: u32 = 100_000;
 
 /// How often a type and a definition may change, at most.
 pub const CHANGES_MAX: u32 = 16_777_215;
+
+/// The size of a generated text. (docs/FORMATS.md, "Generated programs")
+#[derive(Debug, Drop)]
+pub struct Size {
+    pub number: u32,
+    ghost in_range: { (1 ≤ number) × (number ≤ NUMBER_MAX) },
+}
 
 /// How a text is to run.
 #[derive(Debug, Drop)]
@@ -36,4 +44,12 @@ pub struct RunOptions {
 pub enum Job {
     /// Read a text, run it, and write its report.
     Run(RunOptions),
+    /// Read a text, run it, and write its bundle: the text and the derivations of its fresh checks.
+    Derive,
+    /// Read a bundle, and write for each of its derivations whether it is good.
+    Verify,
+    /// Write the generated text of this size.
+    Gen(Size),
+    /// Run the generated text of this size, and write a line of how many calls it made.
+    Work(Size),
 }

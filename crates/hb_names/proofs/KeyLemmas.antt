@@ -7,8 +7,11 @@ use Rattle.std.proofs.lemmas.Bool.{lt-ltb, le-ltb, ltb-true, ltb-false, cases_or
 use Rattle.std.proofs.{lemmas.List.length-map, lemmas.List.map-append, lemmas.Map.Keys.apart_from_distinct}
 use Rattle.std.proofs.lemmas.Option.{none-some, slice_get-map, get_or_from_slice_get, slice_get_within}
 use Rattle.indexmap.specs.IndexSet.{insert_key}
-use Rattle.hb_names.specs.Names.{Name, same, place, Differ}
+use Rattle.hb_names.specs.{Names.Name, Names.same, Names.place, Names.Differ, Stored.Stock}
 use Rattle.hb_names.proofs.NameLemmas.{same-equiv, place-test, place-within}
+
+pub same-names : {s t : Stock} → s ≡ t → s.names ≡ t.names
+same-names e = λ i. (e i).names
 
 position-cons : {X : Type 0} (p : X → Bool) (x : X) (xs : List X) → position p (x ∷ xs) ≡ (if p x then Some 0 else option_map suc (position p xs))
 position-cons p x xs = by (p x) (position_or_len p xs) (length xs)

@@ -4,6 +4,7 @@ ghost use Rattle.std.specs.Prelude.{◌≡◌, [], ◌<◌, ◌≤◌, ◌↔◌
 
 use crate::list::NameList;
 use crate::names::{NameFail, Names};
+use crate::store::NameStore;
 use hb_types::ids::{ClassId, KeyId};
 use std::alloc::Global;
 use std::marker::Model;
@@ -11,7 +12,7 @@ use std::marker::Model;
 /// Names that nobody else adds to: those that it knows are those that were asked.
 #[derive(Drop)]
 pub struct PlainNames {
-    list: NameList,
+    store: NameStore,
 }
 
 impl Model for PlainNames {
@@ -20,7 +21,7 @@ impl Model for PlainNames {
 
     ghost Value = { List Name };
 
-    ghost view = { λ n. n.list };
+    ghost view = { λ n. n.store.names };
 }
 
 impl PlainNames {
@@ -29,7 +30,7 @@ impl PlainNames {
         ensures { result ≡ [] }
     {
         PlainNames {
-            list: NameList::new(alloc),
+            store: NameStore::new(alloc),
         }
     }
 
@@ -37,8 +38,8 @@ impl PlainNames {
     pub fn into_list(self) -> NameList
         ensures { result ≡ self }
     {
-        let PlainNames { list } = self;
-        list
+        let PlainNames { store } = self;
+        store.into_list()
     }
 }
 
@@ -54,10 +55,10 @@ impl Names for PlainNames {
     ghost alike_on = { λ _ _ _ _ _. tt };
 
     fn key(&mut self, _alloc: Global, class: ClassId, name: &[u8]) -> Result<KeyId, NameFail> {
-        self.list.key(class, name)
+        self.store.key(class, name)
     }
 
     fn name_of(&self, key: KeyId) -> (ClassId, &[u8]) {
-        self.list.name_of(key)
+        self.store.name_of(key)
     }
 }

@@ -333,10 +333,8 @@ module _ (t : Table) (names others : List Name) (done first second : List Act) w
     walk_named : (id : ℕ) (v : Value) (f g : List ℕ → St → Answer) → ((bytes : List ℕ) → Walks (f bytes) (g bytes)) → Walks (λ s. named id v s (λ bytes. f bytes s))
         (λ s. named id v s (λ bytes. g bytes s))
     walk_named id value.Nil f g w n s pre h = Halts stop.NilValue id s pre h
-    walk_named id (value.Bool b) f g w n s pre h = Halts stop.BadOperand id s pre h
-    walk_named id (value.Int z) f g w n s pre h = Halts stop.BadOperand id s pre h
-    walk_named id (value.Object c) f g w n s pre h = Halts stop.BadOperand id s pre h
     walk_named id (value.Str bytes) f g w n s pre h = along_if n (is_name bytes) _ _ _ _ (w bytes n s pre h) (Halts stop.BadName id s pre h)
+    walk_named id _ _ _ _ _ s pre h = Halts stop.BadOperand id s pre h
 
     -- each call goes along
     abbrev pub WalkCalls : (call call' : Calls) → Type 0
@@ -550,21 +548,21 @@ module _ (t : Table) (names others : List Name) (done first second : List Act) w
     keyed_call key kinds = record { none = λ s. refl; other = λ s c l. go s c l; reads = λ s c l. went s c l (start_head t first second s.next key kinds (c ∷ l)) }
       where
         go : (s : St) (a : Act) (l : List Act) → HasKey key a ⊎ (called t run id c args (call_of t s.next key kinds (a ∷ l)) (at s (a ∷ l)) ≡ Lost)
-        go s (Hold p j ty n) l = one (nat_eq p.0 s.next) (nat_eq j.0 key) refl
+        go s (Hold j p ty n) l = one (nat_eq p.0 s.next) (nat_eq j.0 key) refl
           where
             one : (x y : Bool) → nat_eq j.0 key ≡ y
                 → (j.0 ≡ key) ⊎ (called t run id c args (if x && y then decision (takes_at t ty kinds) s.next key kinds (record { key = j.0; ty = ty; changes = n } ∷ []) l else NoCall)
-                (at s (Hold p j ty n ∷ l)) ≡ Lost)
+                (at s (Hold j p ty n ∷ l)) ≡ Lost)
             one x true e = inl (eqb-true j.0 key e)
             one true false e = inr refl
             one false false e = inr refl
-        go s (Free p j) l = inr refl
+        go s (Free j p) l = inr refl
         go s (Retype j site) l = inr refl
         go s (Busy j pins) l = inr refl
         go s (WornType j) l = inr refl
         go s (Define j site) l = inr refl
         go s (WornDef j) l = inr refl
-        go s (Call p j site given v) l = inr refl
+        go s (Call j p site given v) l = inr refl
 
         went : (s : St) (a : Act) (l : List Act) → (call_of t s.next key kinds (a ∷ l) ≡ NoCall) ⊎ Head (Starts s.next key) (a ∷ l) (λ b m. Leaves m (call_of t s.next key kinds (a ∷ l)))
             → Later (s.read ++ (s.begun, a) ∷ []) (called t run id c args (call_of t s.next key kinds (a ∷ l)) (at s (a ∷ l)))

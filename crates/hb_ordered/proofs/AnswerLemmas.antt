@@ -67,11 +67,11 @@ declare_one limit c log _ _ _ _ (Worn s key) (Held _ _ pins) x y = absurd (omega
 declare_one limit c log _ _ _ _ (Worn s key) (Worn _ _) x y = refl
 
 -- a Hold finds what there is
-hold_one : (limit c : ℕ) (log : List Entry) (q : CallNo) (key other : KeyId) (ty ty' : Option TypeSite) (n n' : ℕ) → key ≡ other → FitsAct limit c (spot key.0 log) (Hold q key ty n)
-    → FitsAct limit c (spot other.0 log) (Hold q other ty' n') → Hold q key ty n ≡ Hold q other ty' n'
+hold_one : (limit c : ℕ) (log : List Entry) (q : CallNo) (key other : KeyId) (ty ty' : Option TypeSite) (n n' : ℕ) → key ≡ other → FitsAct limit c (spot key.0 log) (Hold key q ty n)
+    → FitsAct limit c (spot other.0 log) (Hold other q ty' n') → Hold key q ty n ≡ Hold other q ty' n'
 hold_one limit c log q key other ty ty' n n' same x y =
     let at : spot key.0 log ≡ spot other.0 log = ap (λ (k : KeyId). spot k.0 log) same in
-    ap (λ (k : KeyId). Hold q k ty n) same ∙ ap (λ (o : Option TypeSite). Hold q other o n) (x.0 ∙ ap (λ (s : Spot). s.ty) at ∙ sym y.0) ∙ ap (λ m. Hold q other ty' m)
+    ap (λ (k : KeyId). Hold k q ty n) same ∙ ap (λ (o : Option TypeSite). Hold other q o n) (x.0 ∙ ap (λ (s : Spot). s.ty) at ∙ sym y.0) ∙ ap (λ m. Hold other q ty' m)
     (x.1 ∙ ap (λ (s : Spot). s.changes) at ∙ sym y.1)
 
 start_one : (limit c : ℕ) (log : List Entry) (q k : ℕ) (a b : Act) → Answers (Starts q k) a → Answers (Starts q k) b → FitsAct limit c (spot (key_of a) log) a → FitsAct limit c
@@ -103,9 +103,9 @@ nothing_behind xs ys (r ∷ rest) back e f = absurd (let n = ap length e in let 
 same_self : (x : ℕ × ℕ) → same_call x x ≡ true
 same_self x = let a = eq-eqb x.0 x.0 refl in let b = eq-eqb x.1 x.1 refl in rw (a, b) refl
 
-start_holds : (c : ℕ) (q : CallNo) (key : KeyId) (before : List Entry) (ty : Option TypeSite) (n : ℕ) → 1 ≤ times (c, q.0) (spot key.0 (before ++ entry c (Hold q key ty n) ∷ [])).calls
+start_holds : (c : ℕ) (q : CallNo) (key : KeyId) (before : List Entry) (ty : Option TypeSite) (n : ℕ) → 1 ≤ times (c, q.0) (spot key.0 (before ++ entry c (Hold key q ty n) ∷ [])).calls
 start_holds c q key before ty n =
-    let e : Entry = entry c (Hold q key ty n) in
+    let e : Entry = entry c (Hold key q ty n) in
     let one = same_self (c, q.0) in
     subst (λ (s : Spot). 1 ≤ times (c, q.0) s.calls) (sym (spot_more key.0 before e ∙ turn_here key.0 (spot key.0 before) e refl)) (rw one (omega arith))
 
@@ -118,7 +118,7 @@ began_holds c q key start log b =
 -- a call that began did not begin again since
 not_again : (c : ℕ) (q : CallNo) (key other : KeyId) (start later log : List Entry) → Began c q key start log → (b : Began c q other later log) → IsPrefix start b.before → ⊥
 not_again c q key other start later log a b p =
-    let e : Entry = entry c (Hold q other b.ty b.changes) in
+    let e : Entry = entry c (Hold other q b.ty b.changes) in
     let goes : start ++ (p.0 ++ e ∷ b.since) ≡ start ++ a.since =
     sym (append_assoc start p.0 (e ∷ b.since)) ∙ ap (λ l. l ++ e ∷ b.since) p.1 ∙ sym (append_assoc b.before (e ∷ []) b.since) ∙ ap (λ l. l ++ b.since) (sym b.is) ∙ b.goes ∙ sym a.goes in
     let rest : p.0 ++ e ∷ b.since ≡ a.since = append_cancel_left start (p.0 ++ e ∷ b.since) a.since goes in
@@ -130,14 +130,14 @@ not_again c q key other start later log a b p =
     omega (arith, here, none)
 
 -- the list in which a call begins goes on with its rest
-starts_at : (c : ℕ) (q : CallNo) (key : KeyId) (start log : List Entry) (b : Began c q key start log) → log ≡ b.before ++ entry c (Hold q key b.ty b.changes) ∷ b.since
-starts_at c q key start log b = sym b.goes ∙ ap (λ l. l ++ b.since) b.is ∙ append_assoc b.before (entry c (Hold q key b.ty b.changes) ∷ []) b.since
+starts_at : (c : ℕ) (q : CallNo) (key : KeyId) (start log : List Entry) (b : Began c q key start log) → log ≡ b.before ++ entry c (Hold key q b.ty b.changes) ∷ b.since
+starts_at c q key start log b = sym b.goes ∙ ap (λ l. l ++ b.since) b.is ∙ append_assoc b.before (entry c (Hold key q b.ty b.changes) ∷ []) b.since
 
 -- a start is behind another one
 behind : (c : ℕ) (q : CallNo) (key other : KeyId) (start later log : List Entry) → Began c q key start log → Began c q other later log → (rest : List Entry) × (start ≡ later ++ rest)
-behind c q key other start later log a b = elim (split start a.since b.before b.since (entry c (Hold q other b.ty b.changes)) (a.goes ∙ starts_at c q other later log b)) [
+behind c q key other start later log a b = elim (split start a.since b.before b.since (entry c (Hold other q b.ty b.changes)) (a.goes ∙ starts_at c q other later log b)) [
   | inl p ↦ absurd (not_again c q key other start later log a b p)
-  | inr r ↦ (r.0, r.1 ∙ sym (append_assoc b.before (entry c (Hold q other b.ty b.changes) ∷ []) r.0) ∙ ap (λ l. l ++ r.0) (sym b.is))
+  | inr r ↦ (r.0, r.1 ∙ sym (append_assoc b.before (entry c (Hold other q b.ty b.changes) ∷ []) r.0) ∙ ap (λ l. l ++ r.0) (sym b.is))
 ]
 
 -- the key and the start are the same, wherever it is said that a call began
@@ -146,11 +146,11 @@ one_began c q key other start later log a b =
     let x = behind c q key other start later log a b in
     let y = behind c q other key later start log b a in
     let same = nothing_behind start later x.0 y.0 x.1 y.1 in
-    let last = last_same a.before b.before (entry c (Hold q key a.ty a.changes)) (entry c (Hold q other b.ty b.changes)) (sym a.is ∙ same ∙ b.is) in
+    let last = last_same a.before b.before (entry c (Hold key q a.ty a.changes)) (entry c (Hold other q b.ty b.changes)) (sym a.is ∙ same ∙ b.is) in
     (held_key last, same)
   where
-    held_key : entry c (Hold q key a.ty a.changes) ≡ entry c (Hold q other b.ty b.changes) → key ≡ other
-    held_key e = let acts_are : Hold q key a.ty a.changes ≡ Hold q other b.ty b.changes = ap (λ (x : Entry). x.act) e in cc acts_are
+    held_key : entry c (Hold key q a.ty a.changes) ≡ entry c (Hold other q b.ty b.changes) → key ≡ other
+    held_key e = let acts_are : Hold key q a.ty a.changes ≡ Hold other q b.ty b.changes = ap (λ (x : Entry). x.act) e in cc acts_are
 
 -- ── in a list ──
 
@@ -208,17 +208,11 @@ same_way c k log by.Shared b x y = absurd x
 -- a verdict that does not enter is that of a fresh check
 same_refusal : (v w : Verdict) → as_fresh v ≡ v → as_fresh v ≡ as_fresh w → ((way : By) → w ≡ verdict.Enter way → ⊥) → v ≡ w
 same_refusal v (verdict.Enter way) f e not = absurd (not way refl)
-same_refusal v verdict.NoBody f e not = sym f ∙ e
-same_refusal v verdict.NoType f e not = sym f ∙ e
-same_refusal v verdict.BadArgs f e not = sym f ∙ e
-same_refusal v (verdict.IllTyped g) f e not = sym f ∙ e
+same_refusal _ _ f e _ = sym f ∙ e
 
 enters_one : (v : Verdict) (way : By) → as_fresh v ≡ verdict.Enter by.Fresh → (w : By) × (v ≡ verdict.Enter w)
 enters_one (verdict.Enter w) way e = (w, refl)
-enters_one verdict.NoBody way e = absurd (cc e)
-enters_one verdict.NoType way e = absurd (cc e)
-enters_one verdict.BadArgs way e = absurd (cc e)
-enters_one (verdict.IllTyped g) way e = absurd (cc e)
+enters_one _ _ e = absurd (cc e)
 
 refuses : (v w : Verdict) (way : By) → as_fresh v ≡ as_fresh w → as_fresh v ≡ v → ((x : By) → v ≡ verdict.Enter x → ⊥) → w ≡ verdict.Enter way → ⊥
 refuses v w way e f not is = (let h = enters_one v way (e ∙ ap as_fresh is) in not h.0 h.1)
@@ -235,21 +229,21 @@ same_verdict c k log (verdict.IllTyped g) w e x y = same_refusal (verdict.IllTyp
 
 -- ── what follows in a call ──
 
-some_run : (q : CallNo) (key : KeyId) (going : Bool) (l : List Act) → 1 ≤ runs q.0 going (l ++ Free q key ∷ []) + cond going 1 0
+some_run : (q : CallNo) (key : KeyId) (going : Bool) (l : List Act) → 1 ≤ runs q.0 going (l ++ Free key q ∷ []) + cond going 1 0
 some_run q key going [] = let same = eq-eqb q.0 q.0 refl in rw same (go going)
   where
     go : (going : Bool) → 1 ≤ (cond going 0 1 + 0) + cond going 1 0
     go true = omega arith
     go false = omega arith
-some_run q key going (Hold p j ty n ∷ l) = go (eqb q.0 p.0) (some_run q key false l) (some_run q key going l)
+some_run q key going (Hold j p ty n ∷ l) = go (eqb q.0 p.0) (some_run q key false l) (some_run q key going l)
   where
-    go : (b : Bool) → 1 ≤ runs q.0 false (l ++ Free q key ∷ []) + 0 → 1 ≤ runs q.0 going (l ++ Free q key ∷ []) + cond going 1 0
-        → 1 ≤ cond b (runs q.0 false (l ++ Free q key ∷ [])) (runs q.0 going (l ++ Free q key ∷ [])) + cond going 1 0
+    go : (b : Bool) → 1 ≤ runs q.0 false (l ++ Free key q ∷ []) + 0 → 1 ≤ runs q.0 going (l ++ Free key q ∷ []) + cond going 1 0
+        → 1 ≤ cond b (runs q.0 false (l ++ Free key q ∷ [])) (runs q.0 going (l ++ Free key q ∷ [])) + cond going 1 0
     go true r x = omega (arith, r)
     go false r x = x
-some_run q key going (Free p j ∷ l) = go (eqb q.0 p.0) going (some_run q key going l)
+some_run q key going (Free j p ∷ l) = go (eqb q.0 p.0) going (some_run q key going l)
   where
-    go : (b : Bool) (g : Bool) → 1 ≤ runs q.0 g (l ++ Free q key ∷ []) + cond g 1 0 → 1 ≤ cond b (cond g 0 1 + runs q.0 true (l ++ Free q key ∷ [])) (runs q.0 g (l ++ Free q key ∷ [])) + cond g 1 0
+    go : (b : Bool) (g : Bool) → 1 ≤ runs q.0 g (l ++ Free key q ∷ []) + cond g 1 0 → 1 ≤ cond b (cond g 0 1 + runs q.0 true (l ++ Free key q ∷ [])) (runs q.0 g (l ++ Free key q ∷ [])) + cond g 1 0
     go true true x = omega arith
     go true false x = omega arith
     go false g x = x
@@ -258,7 +252,7 @@ some_run q key going (Busy j pins ∷ l) = some_run q key going l
 some_run q key going (WornType j ∷ l) = some_run q key going l
 some_run q key going (Define j site ∷ l) = some_run q key going l
 some_run q key going (WornDef j ∷ l) = some_run q key going l
-some_run q key going (Call p j site args v ∷ l) = some_run q key going l
+some_run q key going (Call j p site args v ∷ l) = some_run q key going l
 
 module _ (t : Table) (limit : ℕ) (names : List Name) (c : ℕ) (log : List Entry) (q : CallNo) (mine : KeyId) (start : List Entry) (began : Began c q mine start log)
     (same : (spot mine.0 log).redefs ≡ (spot mine.0 start).redefs) where
@@ -319,7 +313,7 @@ module _ (t : Table) (limit : ℕ) (names : List Name) (c : ℕ) (log : List Ent
       (subst (λ (l : List Key). Contains (map (name_of t) l) (name_of t a)) (sym all) (in_second (name_of t) a x.held x.others)))
 
   -- what is taken next is not held yet
-  not_held : (key : KeyId) (ty : Option TypeSite) (n : ℕ) (look : Key) → place names (name_of t look) ≡ Some key.0 → FitsAct limit c (spot key.0 log) (Hold q key ty n) → HoldsName names log
+  not_held : (key : KeyId) (ty : Option TypeSite) (n : ℕ) (look : Key) → place names (name_of t look) ≡ Some key.0 → FitsAct limit c (spot key.0 log) (Hold key q ty n) → HoldsName names log
       (c, q.0) (name_of t look) → ⊥
   not_held key ty n look is fits h =
       let at : h.0 ≡ key.0 = same_Some h.0 key.0 (sym h.1 ∙ is) in
@@ -328,13 +322,13 @@ module _ (t : Table) (limit : ℕ) (names : List Name) (c : ℕ) (log : List Ent
       omega (arith, one, none)
 
   -- a Hold of a call that has begun is that of its next look
-  looks_next : (key : KeyId) (ty : Option TypeSite) (n : ℕ) → FitsHold t names c log (Hold q key ty n) → HoldsNext t names c q key log
+  looks_next : (key : KeyId) (ty : Option TypeSite) (n : ℕ) → FitsHold t names c log (Hold key q ty n) → HoldsNext t names c q key log
   looks_next key ty n (inl none) = absurd (let held = began_holds c q mine start log began in
       let zero_held : times (c, q.0) (spot mine.0 log).calls ≡ 0 = held_stands c q.0 mine.0 log ∙ ap (count_of mine.0) none in omega (arith, held, zero_held))
   looks_next key ty n (inr h) = h
 
   -- a call that is not decided gives a key back where the list of names is full
-  full_next : (key : KeyId) → (HasCall c q.0 log → ⊥) → (GivesUp c q log → ⊥) → FitsFree t names c log (Free q key) → IsFullRightly t names c q key log
+  full_next : (key : KeyId) → (HasCall c q.0 log → ⊥) → (GivesUp c q log → ⊥) → FitsFree t names c log (Free key q) → IsFullRightly t names c q key log
   full_next key undecided goes_on (inl h) = absurd (undecided h)
   full_next key undecided goes_on (inr (inl r)) =
       let one = one_began c q r.first mine r.start start log r.began began in
@@ -351,14 +345,14 @@ module _ (t : Table) (limit : ℕ) (names : List Name) (c : ℕ) (log : List Ent
 
   call_call : (site site' : Option BodySite) (args : ArgKinds) (v w : Verdict) → IsDecided t names log (c, q.0) mine.0 site (kinds_of args) v
       → IsDecided t names log (c, q.0) mine.0 site' (kinds_of args) w → IsRightWay c [] mine.0 log v → IsRightWay c [] mine.0 log w
-      → Call q mine site args v ≡ Call q mine site' args w
+      → Call mine q site args v ≡ Call mine q site' args w
   call_call site site' args v w a b x y =
       let sites : site ≡ site' = a.defined ∙ sym b.defined in
       let name : a.name ≡ b.name = place-apart names a.name b.name mine.0 a.is b.is in
       let rules : as_fresh v ≡ as_fresh w =
       a.rules ∙ ap (λ (n : Name). verdict_in t names log n mine.0 site (kinds_of args)) name ∙ ap (λ (o : Option BodySite). verdict_in t names log b.name mine.0 o (kinds_of args)) sites
       ∙ sym b.rules in
-      ap (λ (o : Option BodySite). Call q mine o args v) sites ∙ ap (λ (u : Verdict). Call q mine site' args u) (same_verdict c mine.0 log v w rules x y)
+      ap (λ (o : Option BodySite). Call mine q o args v) sites ∙ ap (λ (u : Verdict). Call mine q site' args u) (same_verdict c mine.0 log v w rules x y)
 
 opened : (c : ℕ) (q : CallNo) (k : ℕ) (log : List Entry) (o : IsOpen c q.0 k log) → Began c q (record { 0 = k }) o.start log
 opened c q k log o =
@@ -369,14 +363,9 @@ opened c q k log o =
 -- ── two lists of names ──
 
 pub shared_back : (names others : List Name) (a : Act) → IsShared names others a → IsShared others names a
-shared_back names others (Hold q key ty n) h = sym h
-shared_back names others (Free q key) h = tt
-shared_back names others (Retype key site) h = sym h
-shared_back names others (Busy key pins) h = sym h
-shared_back names others (WornType key) h = sym h
-shared_back names others (Define key site) h = sym h
-shared_back names others (WornDef key) h = sym h
-shared_back names others (Call q key site args v) h = tt
+shared_back names others (Free key q) h = tt
+shared_back names others (Call key q site args v) h = tt
+shared_back _ _ _ h = sym h
 
 pub all_back : (names others : List Name) (l : List Act) → AreShared names others l → AreShared others names l
 all_back names others [] h = tt
@@ -409,14 +398,14 @@ idle_or names others j s (e ∷ log) i h = one e.act h.0 i (λ s i. idle_or name
 
     one : (a : Act) → IsShared names others a → IsIdle s → ((s : Spot) → IsIdle s → (slice_get names j ≡ slice_get others j) ⊎ IsIdle (spot_from j s log))
         → (slice_get names j ≡ slice_get others j) ⊎ IsIdle (spot_from j (cond (eqb j (key_of a)) (done e.caller.0 s a) s) log)
-    one (Hold q key ty n) same i more = at key.0 _ same more i
-    one (Free q key) same i more = still (eqb j key.0) _ (ap (without (e.caller.0, q.0)) i.0, i.1) more i
+    one (Hold key q ty n) same i more = at key.0 _ same more i
+    one (Free key q) same i more = still (eqb j key.0) _ (ap (without (e.caller.0, q.0)) i.0, i.1) more i
     one (Retype key site) same i more = at key.0 _ same more i
     one (Busy key pins) same i more = at key.0 _ same more i
     one (WornType key) same i more = at key.0 _ same more i
     one (Define key site) same i more = at key.0 _ same more i
     one (WornDef key) same i more = at key.0 _ same more i
-    one (Call q key site args v) same i more = still (eqb j key.0) s i more i
+    one (Call key q site args v) same i more = still (eqb j key.0) s i more i
 
 module _ (t : Table) (names others : List Name) (differ : Differ names) (differ' : Differ others) (log : List Entry) (shared : AreShared names others (map (λ e. e.act) log)) where
   pub held_shared : (x : ℕ × ℕ) (j : ℕ) → 1 ≤ times x (spot j log).calls → slice_get names j ≡ slice_get others j
@@ -500,10 +489,10 @@ module _ (t : Table) (limit : ℕ) (names others : List Name) (differ : Differ n
         | inr (inr h) ↦ inr (inr (holds_moved t names others differ differ' log shared (c, q.0) (name_of t b) h))
       ]
 
-  pub hold_hold : (key other : KeyId) (ty ty' : Option TypeSite) (n n' : ℕ) → Meet names others (Hold q key ty n) (Hold q other ty' n') → HoldsNext t names c q key log
+  pub hold_hold : (key other : KeyId) (ty ty' : Option TypeSite) (n n' : ℕ) → Meet names others (Hold key q ty n) (Hold other q ty' n') → HoldsNext t names c q key log
       → HoldsNext t others c q other log
-      → FitsAct limit c (spot key.0 log) (Hold q key ty n) → FitsAct limit c (spot other.0 log) (Hold q other ty' n')
-      → (Hold q key ty n ≡ Hold q other ty' n') × (slice_get names key.0 ≡ slice_get others key.0)
+      → FitsAct limit c (spot key.0 log) (Hold key q ty n) → FitsAct limit c (spot other.0 log) (Hold other q ty' n')
+      → (Hold key q ty n ≡ Hold other q ty' n') × (slice_get names key.0 ≡ slice_get others key.0)
   hold_hold key other ty ty' n n' meet a b x y = elim (meet_looks a.look b.look a.next b.next) [
     | inl is ↦ (
         let there : place others (name_of t a.look) ≡ Some other.0 = ap (λ (l : Key). place others (name_of t l)) is ∙ b.is in
@@ -520,7 +509,7 @@ module _ (t : Table) (limit : ℕ) (names others : List Name) (differ : Differ n
   own_free key f = sym f.own ∙ (one_began c q f.next.key mine f.next.start start log f.next.began began).0
 
   pub free_hold : (key other : KeyId) (ty : Option TypeSite) (n : ℕ) → length names ≤ NAMES_MAX → ((p : Name) → IsFull names p → place others p ≡ Some other.0 → ⊥) → IsFullRightly t names c q key log
-      → HoldsNext t others c q other log → FitsAct limit c (spot other.0 log) (Hold q other ty n) → ⊥
+      → HoldsNext t others c q other log → FitsAct limit c (spot other.0 log) (Hold other q ty n) → ⊥
   free_hold key other ty n few never f b x = elim (meet_looks f.look b.look f.next b.next) [
     | inl is ↦ never (name_of t f.look) (f.full few) (ap (λ (l : Key). place others (name_of t l)) is ∙ b.is)
     | inr (inl h) ↦ no_place t limit names c log q mine start began same (name_of t f.look) (f.full few).1 h
@@ -531,7 +520,7 @@ module _ (t : Table) (limit : ℕ) (names others : List Name) (differ : Differ n
   decided_here site kinds v d = decided_moved t others names differ' differ log back c q mine.0 site kinds v held_here d
 
   pub hold_call : (key : KeyId) (ty : Option TypeSite) (n : ℕ) (site : Option BodySite) (kinds : List Ty) (v : Verdict) → HoldsNext t names c q key log → TakesAt t log mine.0 kinds
-      → FitsAct limit c (spot key.0 log) (Hold q key ty n) → IsDecided t others log (c, q.0) mine.0 site kinds v → ⊥
+      → FitsAct limit c (spot key.0 log) (Hold key q ty n) → IsDecided t others log (c, q.0) mine.0 site kinds v → ⊥
   hold_call key ty n site kinds v a taken x d = not_held t limit names c log q mine start began same key ty n a.look a.is x
       (decided_holds t limit names c log q mine start began same a.look site kinds v (near t limit names c log q mine start began same a.look a.next) taken (decided_here site kinds v d))
 
@@ -542,7 +531,7 @@ module _ (t : Table) (limit : ℕ) (names others : List Name) (differ : Differ n
 
   pub two_calls_one : (site site' : Option BodySite) (args : ArgKinds) (v w : Verdict) → IsDecided t names log (c, q.0) mine.0 site (kinds_of args) v
       → IsDecided t others log (c, q.0) mine.0 site' (kinds_of args) w → IsRightWay c [] mine.0 log v → IsRightWay c [] mine.0 log w
-      → Call q mine site args v ≡ Call q mine site' args w
+      → Call mine q site args v ≡ Call mine q site' args w
   two_calls_one site site' args v w a b x y = call_call t limit names c log q mine start began same site site' args v w a (decided_here site' (kinds_of args) w b) x y
 
 pub defines_key : (k s : ℕ) (a : Act) → Answers (Defines k s) a → HasKey k a
@@ -565,14 +554,14 @@ shared_key names others p k a e f has = go a (place-at names p k e ∙ sym (plac
     one j same is = subst (λ n. slice_get names n ≡ slice_get others n) (sym is) same
 
     go : (a : Act) → slice_get names k ≡ slice_get others k → HasKey k a → IsShared names others a
-    go (Hold q key ty n) same is = one key.0 same is
-    go (Free q key) same is = tt
+    go (Hold key q ty n) same is = one key.0 same is
+    go (Free key q) same is = tt
     go (Retype key site) same is = one key.0 same is
     go (Busy key pins) same is = one key.0 same is
     go (WornType key) same is = one key.0 same is
     go (Define key site) same is = one key.0 same is
     go (WornDef key) same is = one key.0 same is
-    go (Call q key site args v) same is = tt
+    go (Call key q site args v) same is = tt
 
 module _ (t : Table) (limit : ℕ) (names others : List Name) (differ : Differ names) (differ' : Differ others) (c : ℕ) (log : List Entry) (shared : AreShared names others (map (λ e. e.act) log)) where
   goes_one : (q k : ℕ) (kinds : List Ty) (a b : Act) → Answers (Goes q k kinds) a → Answers (Goes q k kinds) b → IsOpen c q k log → length names ≤ NAMES_MAX → length others ≤ NAMES_MAX
@@ -605,7 +594,7 @@ module _ (t : Table) (limit : ℕ) (names others : List Name) (differ : Differ n
       (full_next t limit names c log q mine o.start b o.same key o.undecided (o.goes_on q refl) r.free) in
       let two = own_free t limit others names differ' differ c log (all_back names others (map (λ e. e.act) log) shared) q mine o.start b o.same other
       (full_next t limit others c log q mine o.start b o.same other o.undecided (o.goes_on q refl) s.free) in
-      (ap (λ (j : KeyId). Free q j) (one ∙ sym two), tt)
+      (ap (λ (j : KeyId). Free j q) (one ∙ sym two), tt)
   goes_one _ _ _ _ _ (GaveBack k kinds q key) (Decided _ args _ mine site v e) o few few' meet stays stays' f g r s va vb x y =
       let b = opened c q mine.0 log o in
       absurd (free_call t limit names others differ differ' c log shared q mine o.start b o.same key site kinds v few
@@ -623,7 +612,7 @@ module _ (t : Table) (limit : ℕ) (names others : List Name) (differ : Differ n
       (subst (λ (ks : List Ty). IsDecided t names log (c, q.0) mine.0 site ks v) e r.row.0))
   goes_one _ _ _ _ _ (Decided kinds args q mine site v e) (Decided _ other _ _ site' w e') o few few' meet stays stays' f g r s va vb x y =
       let args_are : args ≡ other = r.row.1 ∙ ap fill (e ∙ sym e') ∙ sym s.row.1 in (
-        ap (λ (a : ArgKinds). Call q mine site a v) args_are
+        ap (λ (a : ArgKinds). Call mine q site a v) args_are
             ∙ two_calls_one t limit names others differ differ' c log shared q mine o.start (opened c q mine.0 log o) o.same site site' other v w
             (subst (λ (a : ArgKinds). IsDecided t names log (c, q.0) mine.0 site (kinds_of a) v) args_are r.row.0) s.row.0 va vb,
         tt,

@@ -29,7 +29,7 @@ use Rattle.hb_ordered.specs.Asking.{TakesAt}
 began_type : (limit c : ℕ) (q : CallNo) (key : KeyId) (start log : List Entry) (b : Began c q key start log) → IsLegal limit log → b.ty ≡ (spot key.0 log).ty
 began_type limit c q key start log b legal =
     let low : IsLegal limit start = legal_prefix limit start log (b.since, b.goes) legal in
-    let adds : Adds c b.before start (Hold q key b.ty b.changes) = ([], b.is ∙ ap (λ w. w ++ entry c (Hold q key b.ty b.changes) ∷ []) (sym (append-nil b.before)), refl) in
+    let adds : Adds c b.before start (Hold key q b.ty b.changes) = ([], b.is ∙ ap (λ w. w ++ entry c (Hold key q b.ty b.changes) ∷ []) (sym (append-nil b.before)), refl) in
     let finds = hold_finds limit c q key b.ty b.changes b.before start adds low in
     let found : Held = record { ty = b.ty; changes = b.changes } in
     let typed : HasType start (c, q.0) key.0 found = (held_after c b.before start q key b.ty b.changes adds (none_held c q.0 key.0 b.before b.none), finds.0, finds.1) in

@@ -115,11 +115,8 @@ module _ (rd : List (ℕ × Act)) where
 
   pub later_named : (id : ℕ) (v : Value) (go : List ℕ → St → Answer) → ((bytes : List ℕ) → Keeps (go bytes)) → Keeps (λ s. named id v s (λ bytes. go bytes s))
   unfolding Keeps Later
-  later_named id value.Nil go k s p = p
-  later_named id (value.Bool b) go k s p = p
-  later_named id (value.Int n) go k s p = p
-  later_named id (value.Object c) go k s p = p
   later_named id (value.Str bytes) go k s p = later_if (is_name bytes) _ _ (k bytes s p) p
+  later_named _ _ _ _ _ p = p
 
   -- each call keeps what was read
   unfoldable pub KeepCalls : Calls → Type 0
@@ -184,10 +181,7 @@ module _ (rd : List (ℕ × Act)) where
   pub later_decided : (id : ℕ) (body : St → Answer) → Keeps body → (v : Verdict) → Keeps (decided id body v)
   unfolding Keeps Later
   later_decided id body k (verdict.Enter way) s p = k s p
-  later_decided id body k verdict.NoBody s p = p
-  later_decided id body k verdict.NoType s p = p
-  later_decided id body k verdict.BadArgs s p = p
-  later_decided id body k (verdict.IllTyped f) s p = p
+  later_decided _ _ _ _ _ p = p
 
   pub later_called : (t : Table) (run : ℕ → St → Answer) → ((block : ℕ) → Keeps (run block)) → (id : ℕ) (c : ClassId) (args : List Value) (r : Read) → Keeps (called t run id c args r)
   unfolding Keeps Later

@@ -1,17 +1,17 @@
 mod FitsLemmas
-mod AnswerLemmas
-mod NamesLemmas
+pub mod AnswerLemmas
+pub mod NamesLemmas
 mod LaterLemmas
 mod PartLemmas
 mod MeaningLemmas
 mod StopLemmas
-mod AlongLemmas
+pub mod AlongLemmas
 mod OpenLemmas
 mod NextLemmas
-mod SameTurnLemmas
+pub mod SameTurnLemmas
 mod TakenLemmas
-mod WalkLemmas
+pub mod WalkLemmas
 mod RealLemmas
 mod FirstLemmas
 mod ThenLemmas
-mod OneLemmas
+pub mod OneLemmas

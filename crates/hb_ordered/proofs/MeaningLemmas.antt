@@ -26,12 +26,12 @@ define_answers key site (WornDef k) r e = go (nat_eq k.0 key) refl e
     go : (b : Bool) → nat_eq k.0 key ≡ b → (if b then Some (Err stop.Worn) else None) ≡ Some r → Answers (Defines key site) (WornDef k)
     go true t e = subst (λ n. Answers (Defines n site) (WornDef k)) (eqb-true k.0 key t) (Undefined site k)
     go false t e = absurd (none-some r e)
-define_answers key site (Hold p k ty n) r e = absurd (none-some r e)
-define_answers key site (Free p k) r e = absurd (none-some r e)
+define_answers key site (Hold k p ty n) r e = absurd (none-some r e)
+define_answers key site (Free k p) r e = absurd (none-some r e)
 define_answers key site (Retype k s) r e = absurd (none-some r e)
 define_answers key site (Busy k pins) r e = absurd (none-some r e)
 define_answers key site (WornType k) r e = absurd (none-some r e)
-define_answers key site (Call p k s args v) r e = absurd (none-some r e)
+define_answers key site (Call k p s args v) r e = absurd (none-some r e)
 
 pub declare_answers : (asks : Bool) (key site : ℕ) (a : Act) (r : Result Value Stop) → declare_meaning asks key site a ≡ Some r → Answers (Declares key site) a
 declare_answers asks key site (Retype k s) r e = go (nat_eq k.0 key && nat_eq s.0 site) refl e
@@ -50,11 +50,11 @@ declare_answers asks key site (WornType k) r e = go (nat_eq k.0 key) refl e
     go : (b : Bool) → nat_eq k.0 key ≡ b → (if b then Some (Err stop.Worn) else None) ≡ Some r → Answers (Declares key site) (WornType k)
     go true t e = subst (λ n. Answers (Declares n site) (WornType k)) (eqb-true k.0 key t) (Worn site k)
     go false t e = absurd (none-some r e)
-declare_answers asks key site (Hold p k ty n) r e = absurd (none-some r e)
-declare_answers asks key site (Free p k) r e = absurd (none-some r e)
+declare_answers asks key site (Hold k p ty n) r e = absurd (none-some r e)
+declare_answers asks key site (Free k p) r e = absurd (none-some r e)
 declare_answers asks key site (Define k s) r e = absurd (none-some r e)
 declare_answers asks key site (WornDef k) r e = absurd (none-some r e)
-declare_answers asks key site (Call p k s args v) r e = absurd (none-some r e)
+declare_answers asks key site (Call k p s args v) r e = absurd (none-some r e)
 
 pub define_quiet : (k s n : ℕ) (a : Act) → Answers (Defines k s) a → IsBelow n a
 define_quiet _ _ n _ (Defined key site) = tt

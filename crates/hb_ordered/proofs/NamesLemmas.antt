@@ -49,38 +49,22 @@ shared_parts names others (a ∷ l) m h = (let r = shared_parts names others l m
 
 pub frees_part : (l m : List Act) → AreFrees (l ++ m) → AreFrees l
 frees_part [] m h = tt
-frees_part (Free q key ∷ l) m h = frees_part l m h
-frees_part (Hold q key ty n ∷ l) m h = absurd h
-frees_part (Retype key site ∷ l) m h = absurd h
-frees_part (Busy key pins ∷ l) m h = absurd h
-frees_part (WornType key ∷ l) m h = absurd h
-frees_part (Define key site ∷ l) m h = absurd h
-frees_part (WornDef key ∷ l) m h = absurd h
-frees_part (Call q key site args v ∷ l) m h = absurd h
+frees_part (Free key q ∷ l) m h = frees_part l m h
+frees_part _ _ h = absurd h
 
 -- where an act asks by this key, both lists have one name there
 pub shared_at : (names others : List Name) (k : ℕ) (a : Act) → IsShared names others a → HasKey k a → slice_get names k ≡ slice_get others k
-shared_at names others k (Hold p key ty n) h e = subst (λ j. slice_get names j ≡ slice_get others j) e h
-shared_at names others k (Free p key) h e = absurd e
-shared_at names others k (Retype key site) h e = subst (λ j. slice_get names j ≡ slice_get others j) e h
-shared_at names others k (Busy key pins) h e = subst (λ j. slice_get names j ≡ slice_get others j) e h
-shared_at names others k (WornType key) h e = subst (λ j. slice_get names j ≡ slice_get others j) e h
-shared_at names others k (Define key site) h e = subst (λ j. slice_get names j ≡ slice_get others j) e h
-shared_at names others k (WornDef key) h e = subst (λ j. slice_get names j ≡ slice_get others j) e h
-shared_at names others k (Call p key site args v) h e = absurd e
+shared_at names others k (Free key p) h e = absurd e
+shared_at names others k (Call key p site args v) h e = absurd e
+shared_at names others _ _ h e = subst (λ j. slice_get names j ≡ slice_get others j) e h
 
 -- ── the names that are asked for ──
 
 -- common acts ask for the same names
 asked_one : (names others asked : List Name) (a : Act) → IsShared names others a → asked_by names asked a ≡ asked_by others asked a
-asked_one names others asked (Hold q key ty n) h = ap (with_found asked) h
-asked_one names others asked (Free q key) h = refl
-asked_one names others asked (Retype key site) h = ap (with_found asked) h
-asked_one names others asked (Busy key pins) h = ap (with_found asked) h
-asked_one names others asked (WornType key) h = ap (with_found asked) h
-asked_one names others asked (Define key site) h = ap (with_found asked) h
-asked_one names others asked (WornDef key) h = ap (with_found asked) h
-asked_one names others asked (Call q key site args v) h = refl
+asked_one names others asked (Free key q) h = refl
+asked_one names others asked (Call key q site args v) h = refl
+asked_one _ _ asked _ h = ap (with_found asked) h
 
 pub asked_same : (names others asked : List Name) (l : List Act) → AreShared names others l → asked_after names asked l ≡ asked_after others asked l
 asked_same names others asked [] h = refl
@@ -89,28 +73,22 @@ asked_same names others asked (a ∷ l) h = asked_same names others (asked_by na
 -- Frees ask for none
 asked_frees : (names asked : List Name) (l : List Act) → AreFrees l → asked_after names asked l ≡ asked
 asked_frees names asked [] h = refl
-asked_frees names asked (Free q key ∷ l) h = asked_frees names asked l h
-asked_frees names asked (Hold q key ty n ∷ l) h = absurd h
-asked_frees names asked (Retype key site ∷ l) h = absurd h
-asked_frees names asked (Busy key pins ∷ l) h = absurd h
-asked_frees names asked (WornType key ∷ l) h = absurd h
-asked_frees names asked (Define key site ∷ l) h = absurd h
-asked_frees names asked (WornDef key ∷ l) h = absurd h
-asked_frees names asked (Call q key site args v ∷ l) h = absurd h
+asked_frees names asked (Free key q ∷ l) h = asked_frees names asked l h
+asked_frees _ _ _ h = absurd h
 
 found_grows : (asked : List Name) (o : Option Name) → IsPrefix asked (with_found asked o)
 found_grows asked None = prefix_itself asked
 found_grows asked (Some name) = with_name-begins asked name
 
 by_grows : (names asked : List Name) (a : Act) → IsPrefix asked (asked_by names asked a)
-by_grows names asked (Hold q key ty n) = found_grows asked (slice_get names key.0)
-by_grows names asked (Free q key) = prefix_itself asked
+by_grows names asked (Hold key q ty n) = found_grows asked (slice_get names key.0)
+by_grows names asked (Free key q) = prefix_itself asked
 by_grows names asked (Retype key site) = found_grows asked (slice_get names key.0)
 by_grows names asked (Busy key pins) = found_grows asked (slice_get names key.0)
 by_grows names asked (WornType key) = found_grows asked (slice_get names key.0)
 by_grows names asked (Define key site) = found_grows asked (slice_get names key.0)
 by_grows names asked (WornDef key) = found_grows asked (slice_get names key.0)
-by_grows names asked (Call q key site args v) = prefix_itself asked
+by_grows names asked (Call key q site args v) = prefix_itself asked
 
 asked_grows : (names asked : List Name) (l : List Act) → IsPrefix asked (asked_after names asked l)
 asked_grows names asked [] = prefix_itself asked
@@ -123,14 +101,9 @@ asked_front names l m e = subst (IsPrefix (asked_after names [] l)) (sym (e ∙ 
 -- ── one name has one key ──
 
 key_asks : (names asked : List Name) (k : ℕ) (a : Act) → HasKey k a → asked_by names asked a ≡ with_key names asked k
-key_asks names asked k (Hold q key ty n) e = ap (with_key names asked) e
-key_asks names asked k (Free q key) e = absurd e
-key_asks names asked k (Retype key site) e = ap (with_key names asked) e
-key_asks names asked k (Busy key pins) e = ap (with_key names asked) e
-key_asks names asked k (WornType key) e = ap (with_key names asked) e
-key_asks names asked k (Define key site) e = ap (with_key names asked) e
-key_asks names asked k (WornDef key) e = ap (with_key names asked) e
-key_asks names asked k (Call q key site args v) e = absurd e
+key_asks names asked k (Free key q) e = absurd e
+key_asks names asked k (Call key q site args v) e = absurd e
+key_asks names asked _ _ e = ap (with_key names asked) e
 
 -- the name's key is known, or it is the next
 next_key : (names : List Name) (l m : List Act) (a : Act) (p : Name) (k : ℕ) → names ≡ asked_after names [] (l ++ a ∷ m) → HasKey k a → place names p ≡ Some k

@@ -35,8 +35,8 @@ use Rattle.hb_ordered.proofs.AnswerLemmas.{one_answer, one_began, split}
 
 within_keeps : (q : ℕ) (key : KeyId) (l : List Act) → AllByRecursion (IsWithin q key.0) l → KeepsHold q key.0 l
 within_keeps q key [] h = tt
-within_keeps q key (Hold p j ty n ∷ l) h = (refl, within_keeps q key l h.1)
-within_keeps q key (Free p j ∷ l) h = (let apart = h.0.1 in go (eqb q p.0) (eqb key.0 j.0) refl apart, within_keeps q key l h.1)
+within_keeps q key (Hold j p ty n ∷ l) h = (refl, within_keeps q key l h.1)
+within_keeps q key (Free j p ∷ l) h = (let apart = h.0.1 in go (eqb q p.0) (eqb key.0 j.0) refl apart, within_keeps q key l h.1)
   where
     go : (a b : Bool) → eqb key.0 j.0 ≡ b → nat_eq j.0 key.0 ≡ false → (a && b) ≡ false
     go true true e f = absurd (let same = eq-eqb j.0 key.0 (sym (eqb-true key.0 j.0 e)) in cc (same, f))
@@ -47,17 +47,17 @@ within_keeps q key (Busy j pins ∷ l) h = absurd h.0
 within_keeps q key (WornType j ∷ l) h = absurd h.0
 within_keeps q key (Define j site ∷ l) h = absurd h.0
 within_keeps q key (WornDef j ∷ l) h = absurd h.0
-within_keeps q key (Call p j site args v ∷ l) h = absurd h.0
+within_keeps q key (Call j p site args v ∷ l) h = absurd h.0
 
 redefs_turn : (q k c i : ℕ) (s : Spot) (a : Act) → IsWithin q k a → (turn i s (entry c a)).redefs ≡ s.redefs
-redefs_turn q k c i s (Hold p j ty n) h = go (eqb i j.0)
+redefs_turn q k c i s (Hold j p ty n) h = go (eqb i j.0)
   where
     go : (b : Bool) → (cond b (record s { calls = (c, p.0) ∷ s.calls }) s).redefs ≡ s.redefs
     go true = refl
     go false = refl
-redefs_turn q k c i s (Free p j) h = go (eqb i j.0)
+redefs_turn q k c i s (Free j p) h = go (eqb i j.0)
   where
-    go : (b : Bool) → (cond b (done c s (Free p j)) s).redefs ≡ s.redefs
+    go : (b : Bool) → (cond b (done c s (Free j p)) s).redefs ≡ s.redefs
     go true = refl
     go false = refl
 redefs_turn q k c i s (Retype j site) h = absurd h
@@ -65,7 +65,7 @@ redefs_turn q k c i s (Busy j pins) h = absurd h
 redefs_turn q k c i s (WornType j) h = absurd h
 redefs_turn q k c i s (Define j site) h = absurd h
 redefs_turn q k c i s (WornDef j) h = absurd h
-redefs_turn q k c i s (Call p j site args v) h = absurd h
+redefs_turn q k c i s (Call j p site args v) h = absurd h
 
 redefs_within : (q k c i : ℕ) (s : Spot) (l : List Act) → AllByRecursion (IsWithin q k) l → (spot_from i s (entries_by c l)).redefs ≡ s.redefs
 redefs_within q k c i s [] h = refl
@@ -73,14 +73,14 @@ redefs_within q k c i s (a ∷ l) h = redefs_within q k c i (turn i s (entry c a
 
 fresh_stands : (q : ℕ) (hs : List Stand) (l : List Act) → IsFresh q l → standing_from q hs l ≡ hs
 fresh_stands q hs [] h = refl
-fresh_stands q hs (Hold p j ty n ∷ l) h = (let e = h.0 in rw e (fresh_stands q hs l h.1))
-fresh_stands q hs (Free p j ∷ l) h = (let e = h.0 in rw e (fresh_stands q hs l h.1))
+fresh_stands q hs (Hold j p ty n ∷ l) h = (let e = h.0 in rw e (fresh_stands q hs l h.1))
+fresh_stands q hs (Free j p ∷ l) h = (let e = h.0 in rw e (fresh_stands q hs l h.1))
 fresh_stands q hs (Retype j site ∷ l) h = fresh_stands q hs l h.1
 fresh_stands q hs (Busy j pins ∷ l) h = fresh_stands q hs l h.1
 fresh_stands q hs (WornType j ∷ l) h = fresh_stands q hs l h.1
 fresh_stands q hs (Define j site ∷ l) h = fresh_stands q hs l h.1
 fresh_stands q hs (WornDef j ∷ l) h = fresh_stands q hs l h.1
-fresh_stands q hs (Call p j site args v ∷ l) h = fresh_stands q hs l h.1
+fresh_stands q hs (Call j p site args v ∷ l) h = fresh_stands q hs l h.1
 
 -- an act at a place of two lists is in one of them
 all_at : (P Q R : Act → Type 0) → ((a : Act) → P a → R a) → ((a : Act) → Q a → R a) → (l m xs ys : List Act) (x : Act) → AllByRecursion P l → AllByRecursion Q m → l ++ m ≡ xs ++ x ∷ ys → R x
@@ -97,14 +97,14 @@ acts_at c b a x = acts_append c b (entry c x ∷ a) ∙ ap (λ l. acts c b ++ l)
 module _ (c q : ℕ) (p : CallNo) (key : KeyId) (ty : Option TypeSite) (n : ℕ) (number : p.0 ≡ q) (before : List Entry) (more : List Act) (fresh : IsFresh q (acts c before))
     (within : AllByRecursion (IsWithin q key.0) more) where
   log : List Entry
-  log = before ++ entry c (Hold p key ty n) ∷ entries_by c more
+  log = before ++ entry c (Hold key p ty n) ∷ entries_by c more
 
   start : List Entry
-  start = before ++ entry c (Hold p key ty n) ∷ []
+  start = before ++ entry c (Hold key p ty n) ∷ []
 
   goes : start ++ entries_by c more ≡ log
   unfolding log start
-  goes = append_assoc before (entry c (Hold p key ty n) ∷ []) (entries_by c more)
+  goes = append_assoc before (entry c (Hold key p ty n) ∷ []) (entries_by c more)
 
   -- behind any part of it, the call began with its Hold
   began_to : (l : List Entry) (since : List Entry) → start ++ since ≡ l → KeepsHold q key.0 (acts c since) → Began c p key start l
@@ -129,28 +129,28 @@ module _ (c q : ℕ) (p : CallNo) (key : KeyId) (ty : Option TypeSite) (n : ℕ)
   typed_here t limit kinds legal fits = began_takes t limit c p key start log (began_to log (entries_by c more) goes all_keep) kinds legal fits
 
   -- the acts of the caller
-  acts_log : acts c log ≡ acts c before ++ Hold p key ty n ∷ more
+  acts_log : acts c log ≡ acts c before ++ Hold key p ty n ∷ more
   unfolding log
-  acts_log = acts_at c before (entries_by c more) (Hold p key ty n) ∙ ap (λ l. acts c before ++ Hold p key ty n ∷ l) (acts_by_itself c more)
+  acts_log = acts_at c before (entries_by c more) (Hold key p ty n) ∙ ap (λ l. acts c before ++ Hold key p ty n ∷ l) (acts_by_itself c more)
 
   -- an act of the call, and what it may be
   IsPart : Act → Type 0
-  IsPart a = (is_of q a ≡ false) ⊎ ((a ≡ Hold p key ty n) ⊎ IsWithin q key.0 a)
+  IsPart a = (is_of q a ≡ false) ⊎ ((a ≡ Hold key p ty n) ⊎ IsWithin q key.0 a)
 
   part_at : (xs ys : List Act) (x : Act) → acts c log ≡ xs ++ x ∷ ys → IsPart x
   unfolding IsPart
-  part_at xs ys x e = all_at (λ a. is_of q a ≡ false) (λ a. (a ≡ Hold p key ty n) ⊎ IsWithin q key.0 a) IsPart (λ a h. inl h) (λ a h. inr h) (acts c before) (Hold p key ty n ∷ more) xs ys x fresh
+  part_at xs ys x e = all_at (λ a. is_of q a ≡ false) (λ a. (a ≡ Hold key p ty n) ⊎ IsWithin q key.0 a) IsPart (λ a h. inl h) (λ a h. inr h) (acts c before) (Hold key p ty n ∷ more) xs ys x fresh
       (inl refl, all more within) (sym acts_log ∙ e)
     where
-      all : (l : List Act) → AllByRecursion (IsWithin q key.0) l → AllByRecursion (λ a. (a ≡ Hold p key ty n) ⊎ IsWithin q key.0 a) l
+      all : (l : List Act) → AllByRecursion (IsWithin q key.0) l → AllByRecursion (λ a. (a ≡ Hold key p ty n) ⊎ IsWithin q key.0 a) l
       all [] h = tt
       all (a ∷ l) h = (inr h.0, all l h.1)
 
   no_call : HasCall c q log → ⊥
   unfolding IsPart
-  no_call h = go (part_at (acts c h.before) (acts c h.after) (Call h.call h.key h.site h.args h.verdict) (ap (acts c) h.is ∙ acts_at c h.before h.after (Call h.call h.key h.site h.args h.verdict)))
+  no_call h = go (part_at (acts c h.before) (acts c h.after) (Call h.key h.call h.site h.args h.verdict) (ap (acts c) h.is ∙ acts_at c h.before h.after (Call h.key h.call h.site h.args h.verdict)))
     where
-      go : IsPart (Call h.call h.key h.site h.args h.verdict) → ⊥
+      go : IsPart (Call h.key h.call h.site h.args h.verdict) → ⊥
       go (inl e) = let same = eq-eqb q h.call.0 (sym h.number) in cc (same, e)
       go (inr (inl e)) = cc e
       go (inr (inr w)) = w
@@ -163,28 +163,28 @@ module _ (c q : ℕ) (p : CallNo) (key : KeyId) (ty : Option TypeSite) (n : ℕ)
   unfolding IsPart start
   goes_on r mine g =
       let one : r ≡ p = (let e : r.0 ≡ p.0 = mine ∙ sym number in λ i. record { 0 = e i }) in
-      let f : Act = Free r g.key in
+      let f : Act = Free g.key r in
       go (part_at (acts c g.at) (acts c g.since) f (ap (acts c) g.is ∙ acts_at c g.at g.since f)) (split start (entries_by c more) g.at g.since (entry c f) (goes ∙ g.is)) one
     where
       behind : (rest : List Entry) → start ++ rest ≡ g.at → KeepsHold q key.0 (acts c rest)
       behind rest e =
-          let whole : start ++ entries_by c more ≡ start ++ (rest ++ entry c (Free r g.key) ∷ g.since) = goes ∙ g.is ∙ ap (λ l. l ++ entry c (Free r g.key) ∷ g.since) (sym e)
-          ∙ append_assoc start rest (entry c (Free r g.key) ∷ g.since) in
-          let parts = append_cancel_left start (entries_by c more) (rest ++ entry c (Free r g.key) ∷ g.since) whole in
-          (keeps_parts q key.0 (acts c rest) (acts c (entry c (Free r g.key) ∷ g.since)) (subst (KeepsHold q key.0)
-          (ap (acts c) parts ∙ acts_append c rest (entry c (Free r g.key) ∷ g.since)) all_keep)).0
+          let whole : start ++ entries_by c more ≡ start ++ (rest ++ entry c (Free g.key r) ∷ g.since) = goes ∙ g.is ∙ ap (λ l. l ++ entry c (Free g.key r) ∷ g.since) (sym e)
+          ∙ append_assoc start rest (entry c (Free g.key r) ∷ g.since) in
+          let parts = append_cancel_left start (entries_by c more) (rest ++ entry c (Free g.key r) ∷ g.since) whole in
+          (keeps_parts q key.0 (acts c rest) (acts c (entry c (Free g.key r) ∷ g.since)) (subst (KeepsHold q key.0)
+          (ap (acts c) parts ∙ acts_append c rest (entry c (Free g.key r) ∷ g.since)) all_keep)).0
 
-      in_start : (rest : List Entry) → start ≡ g.at ++ entry c (Free r g.key) ∷ rest → ⊥
-      in_start rest e = first (all_at (λ a. is_of q a ≡ false) (λ a. a ≡ Hold p key ty n) (λ a. (is_of q a ≡ false) ⊎ (a ≡ Hold p key ty n)) (λ a h. inl h) (λ a h. inr h) (acts c before)
-          (Hold p key ty n ∷ []) (acts c g.at) (acts c rest) (Free r g.key) fresh (refl, tt)
-          (sym (acts_at c before [] (Hold p key ty n)) ∙ ap (acts c) e ∙ acts_at c g.at rest (Free r g.key)))
+      in_start : (rest : List Entry) → start ≡ g.at ++ entry c (Free g.key r) ∷ rest → ⊥
+      in_start rest e = first (all_at (λ a. is_of q a ≡ false) (λ a. a ≡ Hold key p ty n) (λ a. (is_of q a ≡ false) ⊎ (a ≡ Hold key p ty n)) (λ a h. inl h) (λ a h. inr h) (acts c before)
+          (Hold key p ty n ∷ []) (acts c g.at) (acts c rest) (Free g.key r) fresh (refl, tt)
+          (sym (acts_at c before [] (Hold key p ty n)) ∙ ap (acts c) e ∙ acts_at c g.at rest (Free g.key r)))
         where
-          first : (is_of q (Free r g.key) ≡ false) ⊎ (Free r g.key ≡ Hold p key ty n) → ⊥
+          first : (is_of q (Free g.key r) ≡ false) ⊎ (Free g.key r ≡ Hold key p ty n) → ⊥
           first (inl h) = let same = eq-eqb q r.0 (sym mine) in cc (same, h)
           first (inr h) = cc h
 
-      go : (is_of q (Free r g.key) ≡ false) ⊎ ((Free r g.key ≡ Hold p key ty n) ⊎ IsWithin q key.0 (Free r g.key))
-          → (IsPrefix start g.at) ⊎ ((rest : List Entry) × (start ≡ g.at ++ entry c (Free r g.key) ∷ rest)) → r ≡ p → ⊥
+      go : (is_of q (Free g.key r) ≡ false) ⊎ ((Free g.key r ≡ Hold key p ty n) ⊎ IsWithin q key.0 (Free g.key r))
+          → (IsPrefix start g.at) ⊎ ((rest : List Entry) × (start ≡ g.at ++ entry c (Free g.key r) ∷ rest)) → r ≡ p → ⊥
       go (inl h) w one = let same = eq-eqb q r.0 (sym mine) in cc (same, h)
       go (inr (inl h)) w one = cc h
       go (inr (inr h)) (inl w) one = other_key g.key h.1 (one_began c p g.key key g.start start g.at (subst (λ (x : CallNo). Began c x g.key g.start g.at) one g.began)
@@ -216,18 +216,15 @@ open_of c q k before (a ∷ more) fresh h = go a h.0 fresh h.1
 
 -- a question that was read for is asked
 asked_of : (c n : ℕ) (before : List Entry) (u : Question) (since : List Act) → IsReadFor n u since → IsFreshFor u (acts c before) → IsAsked c (before ++ entries_by c since) u
-asked_of c n before (Defines k s) since h f = tt
-asked_of c n before (Declares k s) since h f = tt
-asked_of c n before (Starts q k) since h f = tt
 asked_of c n before (Goes q k kinds) since h f = open_of c q k before since f h.1
-asked_of c n before (Ends q k) since h f = tt
+asked_of _ _ _ _ _ _ _ = tt
 
 -- a call of the next number has no part in what was read
 fresh_below : (n : ℕ) (l : List Act) → AllByRecursion (IsBelow n) l → IsFresh n l
 fresh_below n [] h = tt
-fresh_below n (Hold p j ty k ∷ l) h = (let low = h.0 in ne_eqb n p.0 (λ is. omega (arith, low, is)), fresh_below n l h.1)
-fresh_below n (Free p j ∷ l) h = (let low = h.0 in ne_eqb n p.0 (λ is. omega (arith, low, is)), fresh_below n l h.1)
-fresh_below n (Call p j site args v ∷ l) h = (let low = h.0 in ne_eqb n p.0 (λ is. omega (arith, low, is)), fresh_below n l h.1)
+fresh_below n (Hold j p ty k ∷ l) h = (let low = h.0 in ne_eqb n p.0 (λ is. omega (arith, low, is)), fresh_below n l h.1)
+fresh_below n (Free j p ∷ l) h = (let low = h.0 in ne_eqb n p.0 (λ is. omega (arith, low, is)), fresh_below n l h.1)
+fresh_below n (Call j p site args v ∷ l) h = (let low = h.0 in ne_eqb n p.0 (λ is. omega (arith, low, is)), fresh_below n l h.1)
 fresh_below n (Retype j site ∷ l) h = (refl, fresh_below n l h.1)
 fresh_below n (Busy j pins ∷ l) h = (refl, fresh_below n l h.1)
 fresh_below n (WornType j ∷ l) h = (refl, fresh_below n l h.1)
@@ -235,11 +232,8 @@ fresh_below n (Define j site ∷ l) h = (refl, fresh_below n l h.1)
 fresh_below n (WornDef j ∷ l) h = (refl, fresh_below n l h.1)
 
 fresh_for : (n : ℕ) (u : Question) (l since : List Act) → IsReadFor n u since → AllByRecursion (IsBelow n) l → IsFreshFor u l
-fresh_for n (Defines k s) l since r h = tt
-fresh_for n (Declares k s) l since r h = tt
-fresh_for n (Starts q k) l since r h = tt
 fresh_for n (Goes q k kinds) l since r h = subst (λ i. IsFresh i l) (sym r.0) (fresh_below n l h)
-fresh_for n (Ends q k) l since r h = tt
+fresh_for _ _ _ _ _ _ = tt
 
 takes_of : (t : Table) (limit c q k : ℕ) (kinds : List Ty) (before : List Entry) (since : List Act) → IsFresh q (acts c before) → IsSoFar q k since → IsLegal limit (before ++ entries_by c since)
     → first_takes t kinds since ≡ true → TakesAt t (before ++ entries_by c since) k kinds
@@ -254,18 +248,9 @@ takes_of t limit c q k kinds before (a ∷ more) fresh h legal fits = go a h.0 f
 -- an act that goes past the first Hold rightly has arguments that fit
 fits_of : (t : Table) (limit c n : ℕ) (before : List Entry) (u : Question) (since : List Act) (a : Act) → IsReadFor n u since → IsFreshFor u (acts c before)
     → IsLegal limit (before ++ entries_by c since) → GoesPast t u since a → FitsArguments t (before ++ entries_by c since) u a
-fits_of t limit c n before (Goes q k kinds) since (Hold p key ty m) h f legal past = takes_of t limit c q k kinds before since f h.1 legal past
-fits_of t limit c n before (Goes q k kinds) since (Free p key) h f legal past = takes_of t limit c q k kinds before since f h.1 legal past
-fits_of t limit c n before (Goes q k kinds) since (Call p key site args v) h f legal past = tt
-fits_of t limit c n before (Goes q k kinds) since (Retype key site) h f legal past = tt
-fits_of t limit c n before (Goes q k kinds) since (Busy key pins) h f legal past = tt
-fits_of t limit c n before (Goes q k kinds) since (WornType key) h f legal past = tt
-fits_of t limit c n before (Goes q k kinds) since (Define key site) h f legal past = tt
-fits_of t limit c n before (Goes q k kinds) since (WornDef key) h f legal past = tt
-fits_of t limit c n before (Defines k s) since a h f legal past = tt
-fits_of t limit c n before (Declares k s) since a h f legal past = tt
-fits_of t limit c n before (Starts q k) since a h f legal past = tt
-fits_of t limit c n before (Ends q k) since a h f legal past = tt
+fits_of t limit c n before (Goes q k kinds) since (Hold key p ty m) h f legal past = takes_of t limit c q k kinds before since f h.1 legal past
+fits_of t limit c n before (Goes q k kinds) since (Free key p) h f legal past = takes_of t limit c q k kinds before since f h.1 legal past
+fits_of _ _ _ _ _ _ _ _ _ _ _ _ = tt
 
 -- what was read for a question was read for the same one by another list
 read_other : (names others : List Name) (n : ℕ) (u v : Question) (l : List Act) → AsksOne names others u v → IsReadFor n u l → IsReadFor n v l

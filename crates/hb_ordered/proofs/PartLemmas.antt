@@ -27,22 +27,22 @@ use Rattle.hb_ordered.specs.Parting.{AreFrees, GoesPast, IsPast, first_takes, Is
 use Rattle.hb_ordered.specs.Sharing.{IsOwnFree}
 
 -- the answer to a question, by the numbers of its act
-pub starts : (q k : ℕ) (p : CallNo) (key : KeyId) (ty : Option TypeSite) (n : ℕ) → p.0 ≡ q → key.0 ≡ k → Answers (Starts q k) (Hold p key ty n)
-starts q k p key ty n e f = subst (λ x. Answers (Starts x k) (Hold p key ty n)) e (subst (λ x. Answers (Starts p.0 x) (Hold p key ty n)) f (Started p key ty n))
+pub starts : (q k : ℕ) (p : CallNo) (key : KeyId) (ty : Option TypeSite) (n : ℕ) → p.0 ≡ q → key.0 ≡ k → Answers (Starts q k) (Hold key p ty n)
+starts q k p key ty n e f = subst (λ x. Answers (Starts x k) (Hold key p ty n)) e (subst (λ x. Answers (Starts p.0 x) (Hold key p ty n)) f (Started p key ty n))
 
-pub looked : (q k : ℕ) (kinds : List Ty) (p : CallNo) (key : KeyId) (ty : Option TypeSite) (n : ℕ) → p.0 ≡ q → Answers (Goes q k kinds) (Hold p key ty n)
-looked q k kinds p key ty n e = subst (λ x. Answers (Goes x k kinds) (Hold p key ty n)) e (Looked k kinds p key ty n)
+pub looked : (q k : ℕ) (kinds : List Ty) (p : CallNo) (key : KeyId) (ty : Option TypeSite) (n : ℕ) → p.0 ≡ q → Answers (Goes q k kinds) (Hold key p ty n)
+looked q k kinds p key ty n e = subst (λ x. Answers (Goes x k kinds) (Hold key p ty n)) e (Looked k kinds p key ty n)
 
-pub gave_back : (q k : ℕ) (kinds : List Ty) (p : CallNo) (key : KeyId) → p.0 ≡ q → Answers (Goes q k kinds) (Free p key)
-gave_back q k kinds p key e = subst (λ x. Answers (Goes x k kinds) (Free p key)) e (GaveBack k kinds p key)
+pub gave_back : (q k : ℕ) (kinds : List Ty) (p : CallNo) (key : KeyId) → p.0 ≡ q → Answers (Goes q k kinds) (Free key p)
+gave_back q k kinds p key e = subst (λ x. Answers (Goes x k kinds) (Free key p)) e (GaveBack k kinds p key)
 
 pub decided_by : (q k : ℕ) (kinds : List Ty) (p : CallNo) (key : KeyId) (site : Option BodySite) (args : ArgKinds) (v : Verdict) → p.0 ≡ q → key.0 ≡ k → kinds_of args ≡ kinds
-    → Answers (Goes q k kinds) (Call p key site args v)
-decided_by q k kinds p key site args v e f g = subst (λ x. Answers (Goes x k kinds) (Call p key site args v)) e
-    (subst (λ x. Answers (Goes p.0 x kinds) (Call p key site args v)) f (Decided kinds args p key site v g))
+    → Answers (Goes q k kinds) (Call key p site args v)
+decided_by q k kinds p key site args v e f g = subst (λ x. Answers (Goes x k kinds) (Call key p site args v)) e
+    (subst (λ x. Answers (Goes p.0 x kinds) (Call key p site args v)) f (Decided kinds args p key site v g))
 
-pub ended : (q k : ℕ) (p : CallNo) (key : KeyId) → p.0 ≡ q → key.0 ≡ k → Answers (Ends q k) (Free p key)
-ended q k p key e f = subst (λ x. Answers (Ends x k) (Free p key)) e (subst (λ x. Answers (Ends p.0 x) (Free p key)) f (Ended p key))
+pub ended : (q k : ℕ) (p : CallNo) (key : KeyId) → p.0 ≡ q → key.0 ≡ k → Answers (Ends q k) (Free key p)
+ended q k p key e f = subst (λ x. Answers (Ends x k) (Free key p)) e (subst (λ x. Answers (Ends p.0 x) (Free key p)) f (Ended p key))
 
 -- ── acts of calls below a number ──
 
@@ -52,9 +52,9 @@ all_both P (a ∷ l) m h k = (h.0, all_both P l m h.1 k)
 
 pub below_more : (n m : ℕ) (l : List Act) → n ≤ m → AllByRecursion (IsBelow n) l → AllByRecursion (IsBelow m) l
 below_more n m [] le h = tt
-below_more n m (Hold p j ty k ∷ l) le h = (let a = h.0 in omega (arith, le, a), below_more n m l le h.1)
-below_more n m (Free p j ∷ l) le h = (let a = h.0 in omega (arith, le, a), below_more n m l le h.1)
-below_more n m (Call p j site args v ∷ l) le h = (let a = h.0 in omega (arith, le, a), below_more n m l le h.1)
+below_more n m (Hold j p ty k ∷ l) le h = (let a = h.0 in omega (arith, le, a), below_more n m l le h.1)
+below_more n m (Free j p ∷ l) le h = (let a = h.0 in omega (arith, le, a), below_more n m l le h.1)
+below_more n m (Call j p site args v ∷ l) le h = (let a = h.0 in omega (arith, le, a), below_more n m l le h.1)
 below_more n m (Retype j site ∷ l) le h = (tt, below_more n m l le h.1)
 below_more n m (Busy j pins ∷ l) le h = (tt, below_more n m l le h.1)
 below_more n m (WornType j ∷ l) le h = (tt, below_more n m l le h.1)
@@ -92,13 +92,13 @@ pub freed_behind : (q : ℕ) (hs : List Stand) (l : List Act) → Behind l (free
 unfolding Behind
 freed_behind q [] l = ([], refl)
 freed_behind q (h ∷ hs) [] = tt
-freed_behind q (h ∷ hs) (Free p key ∷ l) = go (nat_eq p.0 q && nat_eq key.0 h.key) (freed_behind q hs l)
+freed_behind q (h ∷ hs) (Free key p ∷ l) = go (nat_eq p.0 q && nat_eq key.0 h.key) (freed_behind q hs l)
   where
-    go : (b : Bool) → Behind l (freed q hs l) → Behind (Free p key ∷ l) (if b then freed q hs l else None)
-    go true r = behind_more (Free p key) l (freed q hs l) r
+    go : (b : Bool) → Behind l (freed q hs l) → Behind (Free key p ∷ l) (if b then freed q hs l else None)
+    go true r = behind_more (Free key p) l (freed q hs l) r
     go false r = tt
-freed_behind q (h ∷ hs) (Hold p key ty n ∷ l) = tt
-freed_behind q (h ∷ hs) (Call p key site args v ∷ l) = tt
+freed_behind q (h ∷ hs) (Hold key p ty n ∷ l) = tt
+freed_behind q (h ∷ hs) (Call key p site args v ∷ l) = tt
 freed_behind q (h ∷ hs) (Retype key site ∷ l) = tt
 freed_behind q (h ∷ hs) (Busy key pins ∷ l) = tt
 freed_behind q (h ∷ hs) (WornType key ∷ l) = tt
@@ -126,13 +126,13 @@ called_leaves q site (verdict.IllTyped f) held m = refused_leaves m site (verdic
 decision_leaves : (fits : Bool) (q k : ℕ) (kinds : List Ty) (held : List Stand) (l : List Act) → Leaves l (decision fits q k kinds held l)
 unfolding Leaves
 decision_leaves fits q k kinds held [] = tt
-decision_leaves fits q k kinds held (Hold p j ty n ∷ l) = leaves_if (Hold p j ty n ∷ l) (fits && nat_eq p.0 q) _ NoCall
-    (leaves_more (Hold p j ty n) l _ (decision_leaves fits q k kinds (held ++ record { key = j.0; ty = ty; changes = n } ∷ []) l)) tt
-decision_leaves fits q k kinds held (Free p j ∷ l) = leaves_if (Free p j ∷ l) (fits && nat_eq p.0 q) _ NoCall
-    (leaves_if (Free p j ∷ l) (nat_eq j.0 k) _ _ (full_leaves (Free p j ∷ l) (freed q held (Free p j ∷ l)) (freed_behind q held (Free p j ∷ l)))
-    (leaves_more (Free p j) l _ (decision_leaves fits q k kinds (all_but j.0 held) l))) tt
-decision_leaves fits q k kinds held (Call p j site args v ∷ l) = leaves_if (Call p j site args v ∷ l) (nat_eq p.0 q && nat_eq j.0 k && same_kinds kinds (kinds_of args))
-    (called q site v held l) NoCall (leaves_more (Call p j site args v) l _ (called_leaves q site v held l)) tt
+decision_leaves fits q k kinds held (Hold j p ty n ∷ l) = leaves_if (Hold j p ty n ∷ l) (fits && nat_eq p.0 q) _ NoCall
+    (leaves_more (Hold j p ty n) l _ (decision_leaves fits q k kinds (held ++ record { key = j.0; ty = ty; changes = n } ∷ []) l)) tt
+decision_leaves fits q k kinds held (Free j p ∷ l) = leaves_if (Free j p ∷ l) (fits && nat_eq p.0 q) _ NoCall
+    (leaves_if (Free j p ∷ l) (nat_eq j.0 k) _ _ (full_leaves (Free j p ∷ l) (freed q held (Free j p ∷ l)) (freed_behind q held (Free j p ∷ l)))
+    (leaves_more (Free j p) l _ (decision_leaves fits q k kinds (all_but j.0 held) l))) tt
+decision_leaves fits q k kinds held (Call j p site args v ∷ l) = leaves_if (Call j p site args v ∷ l) (nat_eq p.0 q && nat_eq j.0 k && same_kinds kinds (kinds_of args))
+    (called q site v held l) NoCall (leaves_more (Call j p site args v) l _ (called_leaves q site v held l)) tt
 decision_leaves fits q k kinds held (Retype j site ∷ l) = tt
 decision_leaves fits q k kinds held (Busy j pins ∷ l) = tt
 decision_leaves fits q k kinds held (WornType j ∷ l) = tt
@@ -150,14 +150,14 @@ pub freed_frees : (q : ℕ) (hs : List Stand) (l : List Act) → FreesTo l (free
 unfolding FreesTo
 freed_frees q [] l = ([], tt, refl)
 freed_frees q (h ∷ hs) [] = tt
-freed_frees q (h ∷ hs) (Free p key ∷ l) = go (nat_eq p.0 q && nat_eq key.0 h.key) (freed q hs l) (freed_frees q hs l)
+freed_frees q (h ∷ hs) (Free key p ∷ l) = go (nat_eq p.0 q && nat_eq key.0 h.key) (freed q hs l) (freed_frees q hs l)
   where
-    go : (b : Bool) (o : Option (List Act)) → FreesTo l o → FreesTo (Free p key ∷ l) (if b then o else None)
+    go : (b : Bool) (o : Option (List Act)) → FreesTo l o → FreesTo (Free key p ∷ l) (if b then o else None)
     go true None r = tt
-    go true (Some rest) r = (Free p key ∷ r.0, r.1, ap (λ m. Free p key ∷ m) r.2)
+    go true (Some rest) r = (Free key p ∷ r.0, r.1, ap (λ m. Free key p ∷ m) r.2)
     go false o r = tt
-freed_frees q (h ∷ hs) (Hold p key ty n ∷ l) = tt
-freed_frees q (h ∷ hs) (Call p key site args v ∷ l) = tt
+freed_frees q (h ∷ hs) (Hold key p ty n ∷ l) = tt
+freed_frees q (h ∷ hs) (Call key p site args v ∷ l) = tt
 freed_frees q (h ∷ hs) (Retype key site ∷ l) = tt
 freed_frees q (h ∷ hs) (Busy key pins ∷ l) = tt
 freed_frees q (h ∷ hs) (WornType key ∷ l) = tt
@@ -178,14 +178,14 @@ full_frees l (Some rest) h = h
 -- a Free of the call's own key is the first of such Frees
 own_full : (fits : Bool) (q k : ℕ) (kinds : List Ty) (held : List Stand) (a : Act) (l : List Act) → IsOwnFree (Goes q k kinds) a → FullRead (a ∷ l) (decision fits q k kinds held (a ∷ l))
 unfolding FullRead
-own_full fits q k kinds held (Free p j) l own = go (fits && nat_eq p.0 q) (nat_eq j.0 k) (eq-eqb j.0 k own)
+own_full fits q k kinds held (Free j p) l own = go (fits && nat_eq p.0 q) (nat_eq j.0 k) (eq-eqb j.0 k own)
   where
-    go : (b c : Bool) → c ≡ true → FullRead (Free p j ∷ l) (if b then (if c then full_at (freed q held (Free p j ∷ l)) else decision fits q k kinds (all_but j.0 held) l) else NoCall)
-    go true true e = full_frees (Free p j ∷ l) (freed q held (Free p j ∷ l)) (freed_frees q held (Free p j ∷ l))
+    go : (b c : Bool) → c ≡ true → FullRead (Free j p ∷ l) (if b then (if c then full_at (freed q held (Free j p ∷ l)) else decision fits q k kinds (all_but j.0 held) l) else NoCall)
+    go true true e = full_frees (Free j p ∷ l) (freed q held (Free j p ∷ l)) (freed_frees q held (Free j p ∷ l))
     go true false e = absurd (cc e)
     go false c e = tt
-own_full fits q k kinds held (Hold p j ty n) l own = absurd own
-own_full fits q k kinds held (Call p j site args v) l own = absurd own
+own_full fits q k kinds held (Hold j p ty n) l own = absurd own
+own_full fits q k kinds held (Call j p site args v) l own = absurd own
 own_full fits q k kinds held (Retype j site) l own = absurd own
 own_full fits q k kinds held (Busy j pins) l own = absurd own
 own_full fits q k kinds held (WornType j) l own = absurd own
@@ -200,14 +200,14 @@ pub data Head (u : Question) (l : List Act) (Rest : Act → List Act → Type 0)
 
 freed_head : (q : ℕ) (h : Stand) (hs : List Stand) (l : List Act) → (freed q (h ∷ hs) l ≡ None) ⊎ Head (Ends q h.key) l (λ a m. Behind m (freed q (h ∷ hs) l))
 freed_head q h hs [] = inl refl
-freed_head q h hs (Free p key ∷ l) = go (nat_eq p.0 q && nat_eq key.0 h.key) refl (freed_behind q hs l)
+freed_head q h hs (Free key p ∷ l) = go (nat_eq p.0 q && nat_eq key.0 h.key) refl (freed_behind q hs l)
   where
     go : (b : Bool) → (nat_eq p.0 q && nat_eq key.0 h.key) ≡ b → Behind l (freed q hs l)
-        → ((if b then freed q hs l else None) ≡ None) ⊎ Head (Ends q h.key) (Free p key ∷ l) (λ a m. Behind m (if b then freed q hs l else None))
-    go true e r = let both = and_both _ _ e in inr (First (Free p key) l refl (ended q h.key p key (eqb-true p.0 q both.0) (eqb-true key.0 h.key both.1)) r)
+        → ((if b then freed q hs l else None) ≡ None) ⊎ Head (Ends q h.key) (Free key p ∷ l) (λ a m. Behind m (if b then freed q hs l else None))
+    go true e r = let both = and_both _ _ e in inr (First (Free key p) l refl (ended q h.key p key (eqb-true p.0 q both.0) (eqb-true key.0 h.key both.1)) r)
     go false e r = inl refl
-freed_head q h hs (Hold p key ty n ∷ l) = inl refl
-freed_head q h hs (Call p key site args v ∷ l) = inl refl
+freed_head q h hs (Hold key p ty n ∷ l) = inl refl
+freed_head q h hs (Call key p site args v ∷ l) = inl refl
 freed_head q h hs (Retype key site ∷ l) = inl refl
 freed_head q h hs (Busy key pins ∷ l) = inl refl
 freed_head q h hs (WornType key ∷ l) = inl refl
@@ -215,7 +215,7 @@ freed_head q h hs (Define key site ∷ l) = inl refl
 freed_head q h hs (WornDef key ∷ l) = inl refl
 
 -- a Free of a held key is read
-full_behind : (q k : ℕ) (hs : List Stand) (p : CallNo) (key : KeyId) (l : List Act) → 1 ≤ count_of k hs → Behind l (freed q hs (Free p key ∷ l))
+full_behind : (q k : ℕ) (hs : List Stand) (p : CallNo) (key : KeyId) (l : List Act) → 1 ≤ count_of k hs → Behind l (freed q hs (Free key p ∷ l))
 unfolding Behind
 full_behind q k [] p key l held = absurd (omega (arith, held))
 full_behind q k (h ∷ hs) p key l held = go (nat_eq p.0 q && nat_eq key.0 h.key)
@@ -227,29 +227,29 @@ full_behind q k (h ∷ hs) p key l held = go (nat_eq p.0 q && nat_eq key.0 h.key
 decision_head : (fits : Bool) (q k : ℕ) (kinds : List Ty) (held : List Stand) (l : List Act) → 1 ≤ count_of k held
     → (decision fits q k kinds held l ≡ NoCall) ⊎ Head (Goes q k kinds) l (λ a m. IsPast fits a × Leaves m (decision fits q k kinds held l))
 decision_head fits q k kinds held [] has = inl refl
-decision_head fits q k kinds held (Hold p j ty n ∷ l) has = go (fits && nat_eq p.0 q) refl
+decision_head fits q k kinds held (Hold j p ty n ∷ l) has = go (fits && nat_eq p.0 q) refl
   where
     go : (b : Bool) → (fits && nat_eq p.0 q) ≡ b → ((if b then (decision fits q k kinds (held ++ record { key = j.0; ty = ty; changes = n } ∷ []) l) else NoCall) ≡ NoCall)
-        ⊎ Head (Goes q k kinds) (Hold p j ty n ∷ l) (λ a m. IsPast fits a × Leaves m (if b then (decision fits q k kinds (held ++ record { key = j.0; ty = ty; changes = n } ∷ []) l) else NoCall))
-    go true e = inr (First (Hold p j ty n) l refl (looked q k kinds p j ty n (eqb-true p.0 q (and_both _ _ e).1))
+        ⊎ Head (Goes q k kinds) (Hold j p ty n ∷ l) (λ a m. IsPast fits a × Leaves m (if b then (decision fits q k kinds (held ++ record { key = j.0; ty = ty; changes = n } ∷ []) l) else NoCall))
+    go true e = inr (First (Hold j p ty n) l refl (looked q k kinds p j ty n (eqb-true p.0 q (and_both _ _ e).1))
         ((and_both _ _ e).0, decision_leaves fits q k kinds (held ++ record { key = j.0; ty = ty; changes = n } ∷ []) l))
     go false e = inl refl
-decision_head fits q k kinds held (Free p j ∷ l) has = go (fits && nat_eq p.0 q) refl
+decision_head fits q k kinds held (Free j p ∷ l) has = go (fits && nat_eq p.0 q) refl
   where
-    go : (b : Bool) → (fits && nat_eq p.0 q) ≡ b → ((if b then (if nat_eq j.0 k then full_at (freed q held (Free p j ∷ l)) else decision fits q k kinds (all_but j.0 held) l) else NoCall) ≡
-        NoCall) ⊎ Head (Goes q k kinds) (Free p j ∷ l) (λ a m. IsPast fits a
-        × Leaves m (if b then (if nat_eq j.0 k then full_at (freed q held (Free p j ∷ l)) else decision fits q k kinds (all_but j.0 held) l) else NoCall))
-    go true e = inr (First (Free p j) l refl (gave_back q k kinds p j (eqb-true p.0 q (and_both _ _ e).1))
-        ((and_both _ _ e).0, leaves_if l (nat_eq j.0 k) _ _ (full_leaves l (freed q held (Free p j ∷ l)) (full_behind q k held p j l has)) (decision_leaves fits q k kinds (all_but j.0 held) l)))
+    go : (b : Bool) → (fits && nat_eq p.0 q) ≡ b → ((if b then (if nat_eq j.0 k then full_at (freed q held (Free j p ∷ l)) else decision fits q k kinds (all_but j.0 held) l) else NoCall) ≡
+        NoCall) ⊎ Head (Goes q k kinds) (Free j p ∷ l) (λ a m. IsPast fits a
+        × Leaves m (if b then (if nat_eq j.0 k then full_at (freed q held (Free j p ∷ l)) else decision fits q k kinds (all_but j.0 held) l) else NoCall))
+    go true e = inr (First (Free j p) l refl (gave_back q k kinds p j (eqb-true p.0 q (and_both _ _ e).1))
+        ((and_both _ _ e).0, leaves_if l (nat_eq j.0 k) _ _ (full_leaves l (freed q held (Free j p ∷ l)) (full_behind q k held p j l has)) (decision_leaves fits q k kinds (all_but j.0 held) l)))
     go false e = inl refl
-decision_head fits q k kinds held (Call p j site args v ∷ l) has = go (nat_eq p.0 q && nat_eq j.0 k && same_kinds kinds (kinds_of args)) refl
+decision_head fits q k kinds held (Call j p site args v ∷ l) has = go (nat_eq p.0 q && nat_eq j.0 k && same_kinds kinds (kinds_of args)) refl
   where
     go : (b : Bool) → (nat_eq p.0 q && nat_eq j.0 k && same_kinds kinds (kinds_of args)) ≡ b
         → ((if b then called q site v held l else NoCall) ≡ NoCall)
-        ⊎ Head (Goes q k kinds) (Call p j site args v ∷ l) (λ a m. IsPast fits a × Leaves m (if b then called q site v held l else NoCall))
+        ⊎ Head (Goes q k kinds) (Call j p site args v ∷ l) (λ a m. IsPast fits a × Leaves m (if b then called q site v held l else NoCall))
     go true e =
         let x = and_both _ _ e in let y = and_both _ _ x.0 in
-        inr (First (Call p j site args v) l refl (decided_by q k kinds p j site args v (eqb-true p.0 q y.0) (eqb-true j.0 k y.1) (kinds_same kinds (kinds_of args) x.1))
+        inr (First (Call j p site args v) l refl (decided_by q k kinds p j site args v (eqb-true p.0 q y.0) (eqb-true j.0 k y.1) (kinds_same kinds (kinds_of args) x.1))
         (tt, called_leaves q site v held l))
     go false e = inl refl
 decision_head fits q k kinds held (Retype j site ∷ l) has = inl refl
@@ -286,14 +286,14 @@ module _ (t : Table) (first second : List Act) where
       go x y (inl e) r = subst (λ o. TwoFrees q [] o y) (sym e) (NoFirst y)
       go x y (inr f) (inl e) = subst (λ o. TwoFrees q [] x o) (sym e) (NoSecond x)
       go x y (inr (First a m e f u)) (inr (First b n g k v)) = PartAt h.key a b m n x y e g f k u v
-  two_frees q (h ∷ hs) (Free p key ∷ pre) = go (nat_eq p.0 q && nat_eq key.0 h.key) refl (two_frees q hs pre)
+  two_frees q (h ∷ hs) (Free key p ∷ pre) = go (nat_eq p.0 q && nat_eq key.0 h.key) refl (two_frees q hs pre)
     where
       go : (b : Bool) → (nat_eq p.0 q && nat_eq key.0 h.key) ≡ b → TwoFrees q pre (freed q hs (pre ++ first)) (freed q hs (pre ++ second))
-          → TwoFrees q (Free p key ∷ pre) (if b then freed q hs (pre ++ first) else None) (if b then freed q hs (pre ++ second) else None)
-      go true e r = frees_more q (Free p key) pre _ _ (own_low p q (and_both _ _ e).0) r
+          → TwoFrees q (Free key p ∷ pre) (if b then freed q hs (pre ++ first) else None) (if b then freed q hs (pre ++ second) else None)
+      go true e r = frees_more q (Free key p) pre _ _ (own_low p q (and_both _ _ e).0) r
       go false e r = NoFirst None
-  two_frees q (h ∷ hs) (Hold p key ty n ∷ pre) = NoFirst None
-  two_frees q (h ∷ hs) (Call p key site args v ∷ pre) = NoFirst None
+  two_frees q (h ∷ hs) (Hold key p ty n ∷ pre) = NoFirst None
+  two_frees q (h ∷ hs) (Call key p site args v ∷ pre) = NoFirst None
   two_frees q (h ∷ hs) (Retype key site ∷ pre) = NoFirst None
   two_frees q (h ∷ hs) (Busy key pins ∷ pre) = NoFirst None
   two_frees q (h ∷ hs) (WornType key ∷ pre) = NoFirst None
@@ -375,9 +375,9 @@ module _ (t : Table) (first second : List Act) where
     -- the first Hold stays the first
     still : (so_far : List Act) (c : Act) → IsSoFar q k so_far → first_takes t kinds so_far ≡ first_takes t kinds (so_far ++ c ∷ [])
     still [] c so = absurd so
-    still (Hold p j ty n ∷ l) c so = refl
-    still (Free p j ∷ l) c so = refl
-    still (Call p j site args v ∷ l) c so = refl
+    still (Hold j p ty n ∷ l) c so = refl
+    still (Free j p ∷ l) c so = refl
+    still (Call j p site args v ∷ l) c so = refl
     still (Retype j site ∷ l) c so = refl
     still (Busy j pins ∷ l) c so = refl
     still (WornType j ∷ l) c so = refl
@@ -403,24 +403,24 @@ module _ (t : Table) (first second : List Act) where
         go x y (inr f) (inl e) oa ob = subst (λ o. TwoReads q k kinds so_far [] x o) (sym e) (NoCallSecond x)
         go x y (inr (First a m e f u)) (inr (First b n g h v)) oa ob = PartIn (Goes q k kinds) a b m n x y (inr (inl (refl, subst (IsSoFar q k) (sym (append-nil so_far)) so))) e g f h u.1 v.1
             (subst (λ (d : Bool). IsPast d a) known u.0) (subst (λ (d : Bool). IsPast d b) known v.0) (oa a m e) (ob b n g)
-    two_decisions fits held so_far (Hold p j ty n ∷ pre) has so ok = reads_if so_far (Hold p j ty n ∷ pre) (fits && nat_eq p.0 q) _ _ (λ both. let e = (and_both _ _ both).1 in
-        reads_more so_far pre (Hold p j ty n) _ _ (own_low p q e)
-        (two_decisions fits (held ++ record { key = j.0; ty = ty; changes = n } ∷ []) (so_far ++ Hold p j ty n ∷ []) pre (has_last held (record { key = j.0; ty = ty; changes = n }) has)
-        (so_far_more so_far (Hold p j ty n) so (eqb-true p.0 q e)) (ok ∙ still so_far (Hold p j ty n) so)))
-    two_decisions fits held so_far (Free p j ∷ pre) has so ok = reads_if so_far (Free p j ∷ pre) (fits && nat_eq p.0 q) _ _
+    two_decisions fits held so_far (Hold j p ty n ∷ pre) has so ok = reads_if so_far (Hold j p ty n ∷ pre) (fits && nat_eq p.0 q) _ _ (λ both. let e = (and_both _ _ both).1 in
+        reads_more so_far pre (Hold j p ty n) _ _ (own_low p q e)
+        (two_decisions fits (held ++ record { key = j.0; ty = ty; changes = n } ∷ []) (so_far ++ Hold j p ty n ∷ []) pre (has_last held (record { key = j.0; ty = ty; changes = n }) has)
+        (so_far_more so_far (Hold j p ty n) so (eqb-true p.0 q e)) (ok ∙ still so_far (Hold j p ty n) so)))
+    two_decisions fits held so_far (Free j p ∷ pre) has so ok = reads_if so_far (Free j p ∷ pre) (fits && nat_eq p.0 q) _ _
         (λ both. let e = (and_both _ _ both).1 in go (own_low p q e) (nat_eq j.0 k) refl
-        (two_frees q held (Free p j ∷ pre)) (λ apart. two_decisions fits (all_but j.0 held) (so_far ++ Free p j ∷ []) pre (has_but j.0 held apart has)
-        (so_far_more so_far (Free p j) so (eqb-true p.0 q e, apart)) (ok ∙ still so_far (Free p j) so)))
+        (two_frees q held (Free j p ∷ pre)) (λ apart. two_decisions fits (all_but j.0 held) (so_far ++ Free j p ∷ []) pre (has_but j.0 held apart has)
+        (so_far_more so_far (Free j p) so (eqb-true p.0 q e, apart)) (ok ∙ still so_far (Free j p) so)))
       where
-        go : p.0 < suc q → (b : Bool) → nat_eq j.0 k ≡ b → TwoFrees q (Free p j ∷ pre) (freed q held (Free p j ∷ (pre ++ first))) (freed q held (Free p j ∷ (pre ++ second)))
-            → (nat_eq j.0 k ≡ false → TwoReads q k kinds (so_far ++ Free p j ∷ []) pre (decision fits q k kinds (all_but j.0 held) (pre ++ first))
+        go : p.0 < suc q → (b : Bool) → nat_eq j.0 k ≡ b → TwoFrees q (Free j p ∷ pre) (freed q held (Free j p ∷ (pre ++ first))) (freed q held (Free j p ∷ (pre ++ second)))
+            → (nat_eq j.0 k ≡ false → TwoReads q k kinds (so_far ++ Free j p ∷ []) pre (decision fits q k kinds (all_but j.0 held) (pre ++ first))
             (decision fits q k kinds (all_but j.0 held) (pre ++ second)))
-            → TwoReads q k kinds so_far (Free p j ∷ pre) (if b then full_at (freed q held (Free p j ∷ (pre ++ first))) else decision fits q k kinds (all_but j.0 held) (pre ++ first))
-            (if b then full_at (freed q held (Free p j ∷ (pre ++ second))) else decision fits q k kinds (all_but j.0 held) (pre ++ second))
-        go low true e r more = full_reads so_far (Free p j ∷ pre) _ _ r
-        go low false e r more = reads_more so_far pre (Free p j) _ _ low (more e)
-    two_decisions fits held so_far (Call p j site args v ∷ pre) has so ok = reads_if so_far (Call p j site args v ∷ pre) (nat_eq p.0 q && nat_eq j.0 k && same_kinds kinds (kinds_of args)) _ _
-        (λ e. reads_more so_far pre (Call p j site args v) _ _ (own_low p q (and_both _ _ (and_both _ _ e).0).0) (called_reads (so_far ++ Call p j site args v ∷ []) pre site v held))
+            → TwoReads q k kinds so_far (Free j p ∷ pre) (if b then full_at (freed q held (Free j p ∷ (pre ++ first))) else decision fits q k kinds (all_but j.0 held) (pre ++ first))
+            (if b then full_at (freed q held (Free j p ∷ (pre ++ second))) else decision fits q k kinds (all_but j.0 held) (pre ++ second))
+        go low true e r more = full_reads so_far (Free j p ∷ pre) _ _ r
+        go low false e r more = reads_more so_far pre (Free j p) _ _ low (more e)
+    two_decisions fits held so_far (Call j p site args v ∷ pre) has so ok = reads_if so_far (Call j p site args v ∷ pre) (nat_eq p.0 q && nat_eq j.0 k && same_kinds kinds (kinds_of args)) _ _
+        (λ e. reads_more so_far pre (Call j p site args v) _ _ (own_low p q (and_both _ _ (and_both _ _ e).0).0) (called_reads (so_far ++ Call j p site args v ∷ []) pre site v held))
     two_decisions fits held so_far (Retype j site ∷ pre) has so ok = NoCallFirst NoCall
     two_decisions fits held so_far (Busy j pins ∷ pre) has so ok = NoCallFirst NoCall
     two_decisions fits held so_far (WornType j ∷ pre) has so ok = NoCallFirst NoCall
@@ -430,15 +430,15 @@ module _ (t : Table) (first second : List Act) where
     -- the first act of a call is the Hold of its key
     pub start_head : (l : List Act) → (call_of t q k kinds l ≡ NoCall) ⊎ Head (Starts q k) l (λ a m. Leaves m (call_of t q k kinds l))
     start_head [] = inl refl
-    start_head (Hold p j ty n ∷ l) = go (nat_eq p.0 q && nat_eq j.0 k) refl
+    start_head (Hold j p ty n ∷ l) = go (nat_eq p.0 q && nat_eq j.0 k) refl
       where
         go : (b : Bool) → (nat_eq p.0 q && nat_eq j.0 k) ≡ b → ((if b then decision (takes_at t ty kinds) q k kinds (record { key = j.0; ty = ty; changes = n } ∷ []) l else NoCall) ≡ NoCall)
-            ⊎ Head (Starts q k) (Hold p j ty n ∷ l) (λ a m. Leaves m (if b then decision (takes_at t ty kinds) q k kinds (record { key = j.0; ty = ty; changes = n } ∷ []) l else NoCall))
-        go true e = inr (First (Hold p j ty n) l refl (starts q k p j ty n (eqb-true p.0 q (and_both _ _ e).0) (eqb-true j.0 k (and_both _ _ e).1))
+            ⊎ Head (Starts q k) (Hold j p ty n ∷ l) (λ a m. Leaves m (if b then decision (takes_at t ty kinds) q k kinds (record { key = j.0; ty = ty; changes = n } ∷ []) l else NoCall))
+        go true e = inr (First (Hold j p ty n) l refl (starts q k p j ty n (eqb-true p.0 q (and_both _ _ e).0) (eqb-true j.0 k (and_both _ _ e).1))
             (decision_leaves (takes_at t ty kinds) q k kinds (record { key = j.0; ty = ty; changes = n } ∷ []) l))
         go false e = inl refl
-    start_head (Free p j ∷ l) = inl refl
-    start_head (Call p j site args v ∷ l) = inl refl
+    start_head (Free j p ∷ l) = inl refl
+    start_head (Call j p site args v ∷ l) = inl refl
     start_head (Retype j site ∷ l) = inl refl
     start_head (Busy j pins ∷ l) = inl refl
     start_head (WornType j ∷ l) = inl refl
@@ -453,15 +453,15 @@ module _ (t : Table) (first second : List Act) where
         go x y (inl e) r = subst (λ o. TwoReads q k kinds [] [] o y) (sym e) (NoCallFirst y)
         go x y (inr f) (inl e) = subst (λ o. TwoReads q k kinds [] [] x o) (sym e) (NoCallSecond x)
         go x y (inr (First a m e f u)) (inr (First b n g h v)) = PartIn (Starts q k) a b m n x y (inl (refl, refl)) e g f h u v tt tt (λ own. absurd own) (λ own. absurd own)
-    two_calls (Hold p j ty n ∷ pre) = reads_if [] (Hold p j ty n ∷ pre) (nat_eq p.0 q && nat_eq j.0 k) _ _ (λ both. let f = (and_both _ _ both).0 in let e = (and_both _ _ both).1 in
-        reads_more [] pre (Hold p j ty n) _ _ (own_low p q f)
-        (two_decisions (takes_at t ty kinds) (record { key = j.0; ty = ty; changes = n } ∷ []) (Hold p j ty n ∷ []) pre (here j.0 (sym (eqb-true j.0 k e)))
+    two_calls (Hold j p ty n ∷ pre) = reads_if [] (Hold j p ty n ∷ pre) (nat_eq p.0 q && nat_eq j.0 k) _ _ (λ both. let f = (and_both _ _ both).0 in let e = (and_both _ _ both).1 in
+        reads_more [] pre (Hold j p ty n) _ _ (own_low p q f)
+        (two_decisions (takes_at t ty kinds) (record { key = j.0; ty = ty; changes = n } ∷ []) (Hold j p ty n ∷ []) pre (here j.0 (sym (eqb-true j.0 k e)))
         (starts q k p j ty n (eqb-true p.0 q f) (eqb-true j.0 k e), tt) refl))
       where
         here : (i : ℕ) → k ≡ i → 1 ≤ cond (eqb k i) 1 0 + 0
         here i e = let same = eq-eqb k i e in rw same (omega arith)
-    two_calls (Free p j ∷ pre) = NoCallFirst NoCall
-    two_calls (Call p j site args v ∷ pre) = NoCallFirst NoCall
+    two_calls (Free j p ∷ pre) = NoCallFirst NoCall
+    two_calls (Call j p site args v ∷ pre) = NoCallFirst NoCall
     two_calls (Retype j site ∷ pre) = NoCallFirst NoCall
     two_calls (Busy j pins ∷ pre) = NoCallFirst NoCall
     two_calls (WornType j ∷ pre) = NoCallFirst NoCall

@@ -28,14 +28,8 @@ ends_then g rd l (Halt e id s) go h = h
 
 frees_both : (l m : List Act) → AreFrees l → AreFrees m → AreFrees (l ++ m)
 frees_both [] m h k = k
-frees_both (Free p key ∷ l) m h k = frees_both l m h k
-frees_both (Hold p key ty n ∷ l) m h k = absurd h
-frees_both (Retype key site ∷ l) m h k = absurd h
-frees_both (Busy key pins ∷ l) m h k = absurd h
-frees_both (WornType key ∷ l) m h k = absurd h
-frees_both (Define key site ∷ l) m h k = absurd h
-frees_both (WornDef key ∷ l) m h k = absurd h
-frees_both (Call p key site args v ∷ l) m h k = absurd h
+frees_both (Free key p ∷ l) m h k = frees_both l m h k
+frees_both _ _ h _ = absurd h
 
 pub ends_leave : (g : ℕ) (rd : List (ℕ × Act)) (l : List Act) (q : ℕ) (held : List Stand) (vars : Bindings) (self : Option ClassId) (a : Answer) → EndsFull g rd l a → EndsFull g rd l
     (leave q held vars self a)

@@ -36,14 +36,14 @@ key_known names k = go (slice_get names k) refl
     go (Some name) e = let first = place-first names name k e in with_name-known names name first.0 first.1
 
 by_known : (names : List Name) (a : Act) → asked_by names names a ≡ names
-by_known names (Hold q key ty n) = key_known names key.0
-by_known names (Free q key) = refl
+by_known names (Hold key q ty n) = key_known names key.0
+by_known names (Free key q) = refl
 by_known names (Retype key site) = key_known names key.0
 by_known names (Busy key pins) = key_known names key.0
 by_known names (WornType key) = key_known names key.0
 by_known names (Define key site) = key_known names key.0
 by_known names (WornDef key) = key_known names key.0
-by_known names (Call q key site args v) = refl
+by_known names (Call key q site args v) = refl
 
 all_known : (names : List Name) (l : List Act) → asked_after names names l ≡ names
 all_known names [] = refl

@@ -43,11 +43,11 @@ pub data Answers : Question → Act → Type 0 where
   Retyped : (key : KeyId) (site : TypeSite) → Answers (Declares key.0 site.0) (Retype key site)
   Held : (s : ℕ) (key : KeyId) (pins : ℕ) → Answers (Declares key.0 s) (Busy key pins)
   Worn : (s : ℕ) (key : KeyId) → Answers (Declares key.0 s) (WornType key)
-  Started : (q : CallNo) (key : KeyId) (ty : Option TypeSite) (changes : ℕ) → Answers (Starts q.0 key.0) (Hold q key ty changes)
-  Looked : (k : ℕ) (kinds : List Ty) (q : CallNo) (key : KeyId) (ty : Option TypeSite) (changes : ℕ) → Answers (Goes q.0 k kinds) (Hold q key ty changes)
-  GaveBack : (k : ℕ) (kinds : List Ty) (q : CallNo) (key : KeyId) → Answers (Goes q.0 k kinds) (Free q key)
-  Decided : (kinds : List Ty) (args : ArgKinds) (q : CallNo) (key : KeyId) (site : Option BodySite) (v : Verdict) → kinds_of args ≡ kinds → Answers (Goes q.0 key.0 kinds) (Call q key site args v)
-  Ended : (q : CallNo) (key : KeyId) → Answers (Ends q.0 key.0) (Free q key)
+  Started : (q : CallNo) (key : KeyId) (ty : Option TypeSite) (changes : ℕ) → Answers (Starts q.0 key.0) (Hold key q ty changes)
+  Looked : (k : ℕ) (kinds : List Ty) (q : CallNo) (key : KeyId) (ty : Option TypeSite) (changes : ℕ) → Answers (Goes q.0 k kinds) (Hold key q ty changes)
+  GaveBack : (k : ℕ) (kinds : List Ty) (q : CallNo) (key : KeyId) → Answers (Goes q.0 k kinds) (Free key q)
+  Decided : (kinds : List Ty) (args : ArgKinds) (q : CallNo) (key : KeyId) (site : Option BodySite) (v : Verdict) → kinds_of args ≡ kinds → Answers (Goes q.0 key.0 kinds) (Call key q site args v)
+  Ended : (q : CallNo) (key : KeyId) → Answers (Ends q.0 key.0) (Free key q)
 
 -- the method's type takes these arguments
 abbrev pub TakesAt : Table → List Entry → ℕ → List Ty → Type 0
@@ -55,8 +55,8 @@ TakesAt t log k kinds = (m : MethodTy) × (type_of_key t log k ≡ Some m) × (t
 
 -- What a call does before its Call, it does for arguments that its method's type takes.
 abbrev pub FitsArguments : Table → List Entry → Question → Act → Type 0
-FitsArguments t log (Goes q k kinds) (Hold p key ty changes) = TakesAt t log k kinds
-FitsArguments t log (Goes q k kinds) (Free p key) = TakesAt t log k kinds
+FitsArguments t log (Goes q k kinds) (Hold key p ty changes) = TakesAt t log k kinds
+FitsArguments t log (Goes q k kinds) (Free key p) = TakesAt t log k kinds
 FitsArguments t log _ _ = Unit {0}
 
 -- The call q of a key has begun, and its definition is the same since. It was not decided, and has not given up.

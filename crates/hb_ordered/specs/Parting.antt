@@ -18,14 +18,14 @@ use Rattle.hb_ordered.specs.Sharing.{IsOwnFree}
 
 -- the call q of a key has another hold, or gives back another key
 abbrev pub IsWithin : (q k : ℕ) → Act → Type 0
-IsWithin q k (Hold p key ty changes) = p.0 ≡ q
-IsWithin q k (Free p key) = (p.0 ≡ q) × (nat_eq key.0 k ≡ false)
+IsWithin q k (Hold key p ty changes) = p.0 ≡ q
+IsWithin q k (Free key p) = (p.0 ≡ q) × (nat_eq key.0 k ≡ false)
 IsWithin q k (Retype key site) = ⊥
 IsWithin q k (Busy key pins) = ⊥
 IsWithin q k (WornType key) = ⊥
 IsWithin q k (Define key site) = ⊥
 IsWithin q k (WornDef key) = ⊥
-IsWithin q k (Call p key site args v) = ⊥
+IsWithin q k (Call key p site args v) = ⊥
 
 -- these are the acts so far of the call q of a key: it holds the key, and what follows is within it
 abbrev pub IsSoFar : (q k : ℕ) → List Act → Type 0
@@ -42,13 +42,13 @@ IsReadFor n (Ends q k) l = Unit {0}
 
 -- whether the type that the first of these Holds found takes arguments of these kinds
 abbrev pub first_takes : Table → List Ty → List Act → Bool
-first_takes t kinds (Hold p key ty changes ∷ l) = takes_at t ty kinds
+first_takes t kinds (Hold key p ty changes ∷ l) = takes_at t ty kinds
 first_takes t kinds _ = false
 
 -- a Hold or a Free comes before a Call only where the arguments fit
 abbrev pub IsPast : (fits : Bool) → Act → Type 0
-IsPast fits (Hold p key ty changes) = fits ≡ true
-IsPast fits (Free p key) = fits ≡ true
+IsPast fits (Hold key p ty changes) = fits ≡ true
+IsPast fits (Free key p) = fits ≡ true
 IsPast fits _ = Unit {0}
 
 -- behind these acts of its call the act goes past the first Hold rightly
@@ -58,9 +58,9 @@ GoesPast t _ since a = Unit {0}
 
 -- the act is no part of a call from this number on
 abbrev pub IsBelow : (n : ℕ) → Act → Type 0
-IsBelow n (Hold p key ty changes) = p.0 < n
-IsBelow n (Free p key) = p.0 < n
-IsBelow n (Call p key site args v) = p.0 < n
+IsBelow n (Hold key p ty changes) = p.0 < n
+IsBelow n (Free key p) = p.0 < n
+IsBelow n (Call key p site args v) = p.0 < n
 IsBelow n (Retype key site) = Unit {0}
 IsBelow n (Busy key pins) = Unit {0}
 IsBelow n (WornType key) = Unit {0}
@@ -96,14 +96,14 @@ read_with x e = x.state.read ++ tagged x.state.begun (x.since ++ e ∷ [])
 -- Frees
 abbrev pub AreFrees : List Act → Type 0
 AreFrees [] = Unit {0}
-AreFrees (Free q key ∷ l) = AreFrees l
-AreFrees (Hold q key ty changes ∷ l) = ⊥
+AreFrees (Free key q ∷ l) = AreFrees l
+AreFrees (Hold key q ty changes ∷ l) = ⊥
 AreFrees (Retype key site ∷ l) = ⊥
 AreFrees (Busy key pins ∷ l) = ⊥
 AreFrees (WornType key ∷ l) = ⊥
 AreFrees (Define key site ∷ l) = ⊥
 AreFrees (WornDef key ∷ l) = ⊥
-AreFrees (Call q key site args v ∷ l) = ⊥
+AreFrees (Call key q site args v ∷ l) = ⊥
 
 -- Behind these acts the run stops, since the list of names is full: where so many expressions have begun, and after Frees, which are the rest of its acts.
 pub record StopsFull (begun : ℕ) (read : List (ℕ × Act)) (rest : List Act) (r : Run) : Type 0 where
@@ -145,9 +145,9 @@ pub data GoOn (t : Table) (names others : List Name) (done first second : List A
 
 -- the act is a part of the call q
 abbrev pub is_of : (q : ℕ) → Act → Bool
-is_of q (Hold p key ty changes) = q == p.0
-is_of q (Free p key) = q == p.0
-is_of q (Call p key site args v) = q == p.0
+is_of q (Hold key p ty changes) = q == p.0
+is_of q (Free key p) = q == p.0
+is_of q (Call key p site args v) = q == p.0
 is_of q (Retype key site) = false
 is_of q (Busy key pins) = false
 is_of q (WornType key) = false

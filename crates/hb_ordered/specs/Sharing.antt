@@ -9,28 +9,28 @@ use Rattle.hb_ordered.specs.Asking.{Question, Goes}
 
 -- Where the act asks for a name, it is the same in both lists. A Free and a Call have theirs from before.
 abbrev pub IsShared : (names others : List Name) → Act → Type 0
-IsShared names others (Hold q key ty changes) = slice_get names key.0 ≡ slice_get others key.0
-IsShared names others (Free q key) = Unit {0}
+IsShared names others (Hold key q ty changes) = slice_get names key.0 ≡ slice_get others key.0
+IsShared names others (Free key q) = Unit {0}
 IsShared names others (Retype key site) = slice_get names key.0 ≡ slice_get others key.0
 IsShared names others (Busy key pins) = slice_get names key.0 ≡ slice_get others key.0
 IsShared names others (WornType key) = slice_get names key.0 ≡ slice_get others key.0
 IsShared names others (Define key site) = slice_get names key.0 ≡ slice_get others key.0
 IsShared names others (WornDef key) = slice_get names key.0 ≡ slice_get others key.0
-IsShared names others (Call q key site args v) = Unit {0}
+IsShared names others (Call key q site args v) = Unit {0}
 
 abbrev pub AreShared : (names others : List Name) → List Act → Type 0
 AreShared names others l = AllByRecursion (IsShared names others) l
 
 -- the act asks for a name by this key
 abbrev pub HasKey : (k : ℕ) → Act → Type 0
-HasKey k (Hold q key ty changes) = key.0 ≡ k
-HasKey k (Free q key) = ⊥
+HasKey k (Hold key q ty changes) = key.0 ≡ k
+HasKey k (Free key q) = ⊥
 HasKey k (Retype key site) = key.0 ≡ k
 HasKey k (Busy key pins) = key.0 ≡ k
 HasKey k (WornType key) = key.0 ≡ k
 HasKey k (Define key site) = key.0 ≡ k
 HasKey k (WornDef key) = key.0 ≡ k
-HasKey k (Call q key site args v) = ⊥
+HasKey k (Call key q site args v) = ⊥
 
 -- where both acts ask for one name, they ask by one key
 abbrev pub Meet : (names others : List Name) → (a b : Act) → Type 0
@@ -38,7 +38,7 @@ Meet names others a b = (p : Name) (k j : ℕ) → place names p ≡ Some k → 
 
 -- the call gives its own key back before it is decided
 abbrev pub IsOwnFree : Question → Act → Type 0
-IsOwnFree (Goes q k kinds) (Free p key) = key.0 ≡ k
+IsOwnFree (Goes q k kinds) (Free key p) = key.0 ≡ k
 IsOwnFree _ _ = ⊥
 
 -- the first act does not give up for a name that the second one has

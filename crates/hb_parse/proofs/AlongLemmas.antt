@@ -1,4 +1,4 @@
--- All the way through a text the own tokens of nodes other than blocks are apart.
+-- All the way through a text the own tokens of nodes other than blocks are apart, and each node lies in a tree.
 use Rattle.std.proofs.Common.{◌≡◌, ℕ, zero, suc, ◌+◌, ◌<◌, ◌≤◌, List, [], ◌∷◌, ◌++◌, Bool, true, false, cond, Option, Some, None, All, length, slice_get, refl, sym, ◌∙◌, ap, subst, inl, inr, arith, add-one}
 use Rattle.std.proofs.{lemmas.Bool.cases_Bool, lemmas.Bool.false≢true, lemmas.Option.none-some}
 use Rattle.hb_types.specs.declared.types.Ty.TheVariants as ty
@@ -16,7 +16,7 @@ use Rattle.hb_build.specs.Acts.{Answer, Goes, Fails, Lost, Work, act, nothing}
 use Rattle.hb_build.specs.Follow.{act_in, and_then, bytes_in, first_byte, follow, last_of, spot_of}
 use Rattle.hb_build.proofs.FitLemmas.{fits-program, fits-token, fits-phrase, fits-goes}
 use Rattle.hb_parse.proofs.{CourseLemmas.all-at, CourseLemmas.get-some, CourseLemmas.byte-within, ApartLemmas.IsSpot, OwnLemmas.AreApart, OwnLemmas.acts-apart}
-use Rattle.hb_parse.proofs.{OwnLemmas.bound_after}
+use Rattle.hb_parse.proofs.{OwnLemmas.bound_after, ReachedLemmas.Reached, ReachedLemmas.acts-reached}
 use Rattle.hb_parse.proofs.SpareLemmas.{uses, spares, setups, setups_of, spares-phrase, spares-used, spares-unused, setups-phrase}
 use Rattle.hb_parse.proofs.HoldLemmas.{Holds, holds-fails_if, holds-known, holds-complete, on-operand, on-closed, on-own, on-declaring, on-name, on-target, on-called, on-class}
 use Rattle.hb_parse.proofs.HoldLemmas.{on-type, on-block, on-body, on-script, on-method}
@@ -128,6 +128,7 @@ module _ (text : List ℕ) (tokens : List Token) (ordered : AreInOrder 0 tokens)
     pub spares : spares stack free ≡ true
     pub bound : ℕ
     pub apart : AreApart text bound w
+    pub reached : Reached w
     pub read : bound ≤ end_of (last_of tokens at)
     pub unread : free ≡ true → (bound ≤ first_byte (last_of tokens at)) × (first_byte (last_of tokens at) < end_of (last_of tokens at))
 
@@ -150,6 +151,7 @@ module _ (text : List ℕ) (tokens : List Token) (ordered : AreInOrder 0 tokens)
       },
       tt,
     );
+    reached = λ k within. absurd (omega arith);
     read = omega arith;
     unread = λ e. absurd (false≢true e);
   }
@@ -166,6 +168,7 @@ module _ (text : List ℕ) (tokens : List Token) (ordered : AreInOrder 0 tokens)
         spares = h.spares;
         bound = h.bound;
         apart = h.apart;
+        reached = h.reached;
         read = omega (arith, h.read, next.0, next.1);
         unread = λ e. (omega (arith, h.read, next.0), next.1);
       }
@@ -180,6 +183,7 @@ module _ (text : List ℕ) (tokens : List Token) (ordered : AreInOrder 0 tokens)
     spares = spares-phrase sort phrase stack h.free one h.spares;
     bound = h.bound;
     apart = h.apart;
+    reached = h.reached;
     read = h.read;
     unread = h.unread;
   }
@@ -194,6 +198,7 @@ module _ (text : List ℕ) (tokens : List Token) (ordered : AreInOrder 0 tokens)
       let of_setup : KeepsSetup done w v = holds-goes (KeepsSetup done w) (act done p bytes w) v (acts-setup p bytes w done) goes in
       let one : setups_of (A done) + ended w.said.setup ≤ 1 = omega (arith, h.few) in
       let few : setups stack + ended v.said.setup ≤ 1 = omega (arith, h.few, setups-after done w v of_setup one) in
+      let reached : Reached v = holds-goes Reached (act done p bytes w) v (acts-reached p bytes w h.reached done (λ some. none-ended w.said.setup (omega (arith, one, some)))) goes in
       let spared : uses done ≡ true → (h.free ≡ true) × (spares stack false ≡ true) = spares-used (uses done) h.free (spares stack false) (spares stack h.free) h.spares in
       let apart : AreApart text (bound_after done p h.bound) v =
       holds-goes (AreApart text (bound_after done p h.bound)) (act done p bytes w) v
@@ -208,6 +213,7 @@ module _ (text : List ℕ) (tokens : List Token) (ordered : AreInOrder 0 tokens)
           spares = (spared used).1;
           bound = p.at + 1;
           apart = subst (λ b. AreApart text (cond b (p.at + 1) h.bound) v) used apart;
+          reached = reached;
           read = omega (arith, (h.unread (spared used).0).1);
           unread = λ e. absurd (false≢true e);
         }
@@ -220,6 +226,7 @@ module _ (text : List ℕ) (tokens : List Token) (ordered : AreInOrder 0 tokens)
           spares = spares-unused (uses done) h.free (spares stack false) (spares stack h.free) h.spares unused;
           bound = h.bound;
           apart = subst (λ b. AreApart text (cond b (p.at + 1) h.bound) v) unused apart;
+          reached = reached;
           read = h.read;
           unread = h.unread;
         }

@@ -6,10 +6,10 @@ use Rattle.hb_lex.specs.declared.spans.Token.{Token}
 use Rattle.hb_lex.proofs.Standing.{stands_from}
 use Rattle.hb_tree.specs.{Table.Table, Nodes.node_at, Nodes.place_at, Program.IsExprNode}
 use Rattle.hb_tree.specs.declared.node.Placed.{Placed}
-use Rattle.hb_draft.specs.Made.{place_of}
+use Rattle.hb_draft.specs.{Made.place_of, Whole.IsWhole}
 use Rattle.hb_grammar.specs.Language.{program, kinds_of}
-use Rattle.hb_parse.proofs.{LineLemmas.one-byte, BlockCounts.setup-none, BlockCounts.scripts-none, LaidLemmas.IsLaid, OwnLemmas.none}
-use Rattle.hb_parse.specs.{Places.HasDifferentPlaces, Text.IsProgramOf}
+use Rattle.hb_parse.proofs.{LineLemmas.one-byte, BlockCounts.setup-none, BlockCounts.scripts-none, LaidLemmas.IsLaid, OwnLemmas.none, ReachedLemmas.IsReached}
+use Rattle.hb_parse.specs.{Places.HasDifferentPlaces, Text.IsProgramOf, Text.Says}
 use Rattle.hb_parse.proofs.{ApartLemmas.made-at, ApartLemmas.made-apart, ApartLemmas.taken, AlongLemmas.Along, AlongLemmas.along-start, AlongLemmas.along-all}
 use Rattle.hb_build.specs.{Acts.nothing, Fits.Stands as Matches, Pile.Slot, Said.Said, Said.said_in}
 
@@ -52,11 +52,28 @@ module _ (text : List ℕ) (bound : ℕ) (t : Table) (h : IsLaid text bound (sai
 
 -- ── the program of a text ──
 
+-- at the end of a text that says a program nothing lies on the pile, and all that holds on the way holds of it
+module _ (text : List ℕ) (tokens : List Token) (lexed : HasTokens text tokens) (said : Said) (says : Says text tokens said) where
+  standing : AreInOrder 0 tokens × All (Stands text) tokens
+  standing = stands_from text lexed.0 0 None text (Ok tokens) refl lexed.1
+
+  end : Along text tokens standing.0 standing.1 [] (length tokens) says.work
+  end =
+      let size : 0 + length (kinds_of tokens) ≡ length tokens = omega (arith, length-map tokens (λ token. token.kind)) in
+      along-all text tokens standing.0 standing.1 says.actions.0 program 0 (kinds_of tokens) says.done nothing says.work says.actions.1 size says.built (along-start text tokens standing.0 standing.1)
+
+  used_up : says.work.pile ≡ []
+  used_up = empty says.work.pile (subst (λ tags. Matches tags says.work.pile) end.fits end.matches)
+
+  laid : IsLaid text end.bound said none []
+  laid = subst₂ (λ (x : Said) (pile : List Slot). IsLaid text end.bound x none pile) says.said_is used_up end.apart
+
+  reached : IsReached said none []
+  reached = subst₂ (λ (x : Said) (pile : List Slot). IsReached x none pile) says.said_is used_up end.reached
+
+  -- each of its nodes lies in the setup or in a script
+  pub whole : IsWhole (length said.places) said.setup said.scripts
+  whole k within = omega (arith, reached k within)
+
 pub different-places : (text : List ℕ) (tokens : List Token) (t : Table) → HasTokens text tokens → IsProgramOf text tokens t → HasDifferentPlaces t
-different-places text tokens t lexed says =
-    let standing : AreInOrder 0 tokens × All (Stands text) tokens = stands_from text lexed.0 0 None text (Ok tokens) refl lexed.1 in
-    let size : 0 + length (kinds_of tokens) ≡ length tokens = omega (arith, length-map tokens (λ token. token.kind)) in
-    let end : Along text tokens standing.0 standing.1 [] (length tokens) says.work =
-    along-all text tokens standing.0 standing.1 says.actions.0 program 0 (kinds_of tokens) says.done nothing says.work says.actions.1 size says.built (along-start text tokens standing.0 standing.1) in
-    let used_up : says.work.pile ≡ [] = empty says.work.pile (subst (λ tags. Matches tags says.work.pile) end.fits end.matches) in
-    places-apart text end.bound t (subst₂ (λ (said : Said) (pile : List Slot). IsLaid text end.bound said none pile) says.said_is used_up end.apart)
+different-places text tokens t lexed says = places-apart text (end text tokens lexed (said_in t) says).bound t (laid text tokens lexed (said_in t) says)

@@ -9,5 +9,7 @@ pub mod ApartLemmas
 pub mod HoldLemmas
 pub mod LaidLemmas
 pub mod OwnLemmas
+pub mod ReachedLemmas
 pub mod AlongLemmas
 pub mod DifferentLemmas
+pub mod ProgramLemmas

@@ -1,8 +1,7 @@
 -- Tokens of a text say one program or have one first fault, and never both.
-use Rattle.std.proofs.Common.{◌≡◌, inl, inr, ℕ, zero, suc, List, [], ◌∷◌, ◌+◌, ◌++◌, sym, ◌∙◌, ap, ap₂, slice_get}
-use Rattle.hb_lex.specs.declared.{kinds.TokenKind.TokenKind, spans.Token.Token}
-use Rattle.hb_grammar.specs.declared.{symbols.Symbol.Symbol, symbols.Symbol.TheVariants.Token as T, symbols.Symbol.TheVariants.Phrase as N, symbols.Symbol.TheVariants.Action as A}
-use Rattle.hb_grammar.specs.Language.{Act, Derives, Translates, HasActions, IsProgramText, kinds_of}
+use Rattle.std.proofs.Common.{◌≡◌, inl, inr, ℕ, List, sym, ◌∙◌, ap, ap₂, slice_get}
+use Rattle.hb_lex.specs.declared.{spans.Token.Token}
+use Rattle.hb_grammar.specs.Language.{Act, HasActions, IsProgramText, kinds_of}
 use Rattle.hb_grammar.proofs.{OneLemmas.apart, OneLemmas.one-place, OneLemmas.one-wanted, ActionLemmas.one_actions, ActionLemmas.one_first_actions, ActionLemmas.derives-translates}
 use Rattle.hb_build.specs.{Follow.follow, Said.Said}
 use Rattle.hb_build.specs.declared.faults.ParseFail.{ParseFail}

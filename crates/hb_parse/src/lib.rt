@@ -6,5 +6,5 @@ mod parser;
 
 pub use hb_build::faults::{Limit, ParseFail};
 pub use hb_grammar::Wanted;
-pub use laws::{different_places, one_answer};
+pub use laws::{different_places, one_answer, one_program};
 pub use parser::parse;

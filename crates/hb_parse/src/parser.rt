@@ -6,6 +6,7 @@ ghost use Rattle.hb_lex.specs.Text.{HasTokens};
 ghost use Rattle.hb_lex.specs.Tokens.{Stands};
 ghost use Rattle.hb_tree.specs.Canon.{canon};
 ghost use Rattle.hb_tree.specs.Roots.{IsReachedOnce};
+ghost use Rattle.hb_draft.specs.Laid.{IsLaid};
 ghost use Rattle.hb_build.specs.Follow.{bytes_in, first_byte, last_of, spot_at};
 ghost use Rattle.hb_parse.specs.Text.{IsFault, IsProgramOf, byte_of};
 
@@ -83,6 +84,7 @@ pub fn parse(alloc: Global, text: &[u8], tokens: &Tokens) -> Result<Program, Par
         (λ program. IsProgramOf text.now tokens.now program)
         (λ fault. IsFault text.now tokens.now fault ⊎ (fault ≡ ParseFail.NoMemory)) }
     ensures once { IfOk result IsReachedOnce }
+    ensures laid { IfOk result IsLaid }
     ensures short { IfOk result (λ program. length (canon program) < 2 ^ 28) }
 {
     tokens_stand();

@@ -87,25 +87,25 @@ abbrev pub decision : Table → Option BodySite → List Ty → Verdict → List
 decision t site kinds v = def_or_none t site ++ codes " (" ++ kinds_text t kinds ++ codes ") " ++ verdict_text t v
 
 abbrev pub word : Act → List ℕ
-word (Hold q key site changes) = codes " hold "
-word (Free q key) = codes " free "
+word (Hold key q site changes) = codes " hold "
+word (Free key q) = codes " free "
 word (Retype key site) = codes " type "
 word (Busy key pins) = codes " busy "
 word (WornType key) = codes " worn type "
 word (Define key site) = codes " def "
 word (WornDef key) = codes " worn def "
-word (Call q key site args v) = codes " call "
+word (Call key q site args v) = codes " call "
 
 -- what was done to which method, where the names of the keys are these
 abbrev pub about : Table → List Name → Act → List ℕ
-about t names (Hold q key site changes) = call t names q.0 key.0 ++ codes " " ++ type_or_none t site ++ codes " " ++ decimal changes
-about t names (Free q key) = call t names q.0 key.0
+about t names (Hold key q site changes) = call t names q.0 key.0 ++ codes " " ++ type_or_none t site ++ codes " " ++ decimal changes
+about t names (Free key q) = call t names q.0 key.0
 about t names (Retype key site) = method t (slice_get names key.0) ++ codes " " ++ type_place t site
 about t names (Busy key pins) = method t (slice_get names key.0) ++ codes " " ++ decimal pins
 about t names (WornType key) = method t (slice_get names key.0)
 about t names (Define key site) = method t (slice_get names key.0) ++ codes " " ++ def_place t site
 about t names (WornDef key) = method t (slice_get names key.0)
-about t names (Call q key site args v) = call t names q.0 key.0 ++ codes " " ++ decision t site (kinds_of args) v
+about t names (Call key q site args v) = call t names q.0 key.0 ++ codes " " ++ decision t site (kinds_of args) v
 
 -- the caller, and what it did
 abbrev pub trace_line : Table → List Name → Entry → List ℕ

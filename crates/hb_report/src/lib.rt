@@ -8,6 +8,6 @@ mod sections;
 mod traces;
 mod words;
 
-pub use callers::journals;
+pub use callers::{journals, kept_entries};
 pub use sections::{all_done, report};
 pub use traces::trace;

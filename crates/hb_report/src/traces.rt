@@ -229,8 +229,8 @@ fn push_act(
     lines.extend_from_slice(word(act).as_bytes())?;
     match *act {
         Act::Hold {
-            q,
             key,
+            q,
             ty,
             changes,
         } => {
@@ -241,7 +241,7 @@ fn push_act(
             push_number(lines, changes)?;
             Ok(())
         }
-        Act::Free { q, key } => push_call(lines, prog, names, q, key),
+        Act::Free { key, q } => push_call(lines, prog, names, q, key),
         Act::Retype { key, site } => {
             push_method(lines, prog, names, key)?;
             lines.push(b' ')?;
@@ -259,8 +259,8 @@ fn push_act(
         }
         Act::WornType { key } | Act::WornDef { key } => push_method(lines, prog, names, key),
         Act::Call {
-            q,
             key,
+            q,
             site,
             args,
             verdict,

@@ -42,14 +42,13 @@ in_with_key names asked k name h = go (slice_get names k) h
     go (Some other) h = elim (in_with_name asked other name h) [ inl x ↦ inl x | inr e ↦ inr (ap (λ (n : Name). let s : Option Name = Some n in s) (sym e)) ]
 
 in_asked_by : (names asked : List Name) (a : Act) (name : Name) → Contains (asked_by names asked a) name → Contains asked name ⊎ (slice_get names (key_of a) ≡ Some name)
-in_asked_by names asked (Hold q key ty changes) name h = in_with_key names asked key.0 name h
-in_asked_by names asked (Free q key) name h = inl h
+in_asked_by names asked (Hold key q ty changes) name h = in_with_key names asked key.0 name h
 in_asked_by names asked (Retype key site) name h = in_with_key names asked key.0 name h
 in_asked_by names asked (Busy key pins) name h = in_with_key names asked key.0 name h
 in_asked_by names asked (WornType key) name h = in_with_key names asked key.0 name h
 in_asked_by names asked (Define key site) name h = in_with_key names asked key.0 name h
 in_asked_by names asked (WornDef key) name h = in_with_key names asked key.0 name h
-in_asked_by names asked (Call q key site args verdict) name h = inl h
+in_asked_by _ _ _ _ h = inl h
 
 pub in_asked_after : (names asked : List Name) (l : List Act) (name : Name) → Contains (asked_after names asked l) name → Contains asked name ⊎ IsAskedBy names name l
 in_asked_after names asked [] name h = inl h
@@ -115,15 +114,11 @@ key-below t names limit log rules legal before after e is =
     go e.act (rules before after e is) (legal before after e is)
   where
     go : (a : Act) → FitsRules t names e.caller.0 before a → FitsAct limit e.caller.0 (spot (key_of a) before) a → key_of a < length names
-    go (Hold q key ty changes) r f = r.named
-    go (Free q key) r f =
+    go (Hold key q ty changes) r f = r.named
+    go (Free key q) r f =
         let since = holds_since e.caller.0 q key before f in
-        let earlier = rules since.before (since.after ++ e ∷ after) (entry e.caller.0 (Hold q key since.ty since.changes))
-        (is ∙ ap (λ l. l ++ e ∷ after) since.is ∙ append_assoc since.before (entry e.caller.0 (Hold q key since.ty since.changes) ∷ since.after) (e ∷ after)) in
+        let earlier = rules since.before (since.after ++ e ∷ after) (entry e.caller.0 (Hold key q since.ty since.changes))
+        (is ∙ ap (λ l. l ++ e ∷ after) since.is ∙ append_assoc since.before (entry e.caller.0 (Hold key q since.ty since.changes) ∷ since.after) (e ∷ after)) in
         earlier.named
-    go (Retype key site) r f = r.named
-    go (Busy key pins) r f = r.named
-    go (WornType key) r f = r.named
-    go (Define key site) r f = r.named
-    go (WornDef key) r f = r.named
-    go (Call q key site args verdict) r f = place-below names r.row.0.name key.0 r.row.0.is
+    go (Call key q site args verdict) r f = place-below names r.row.0.name key.0 r.row.0.is
+    go _ r _ = r.named

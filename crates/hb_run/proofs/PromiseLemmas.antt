@@ -45,7 +45,7 @@ Enters = (t : Table) (types : Types) (class : ℕ) (b : Option Body) (m : Option
 
 -- an act that fits the row of a Call enters rightly
 pub enters-rightly : Enters → (t : Table) (names : List Name) (c : ℕ) (before : List Entry) (a : Act) → FitsCall t names c before a → EntersRightly t names before a
-enters-rightly law t names c before (Call q key site args v) row =
+enters-rightly law t names c before (Call key q site args v) row =
     let same = law t (types_in t names before) row.0.name.0 (body_at t site) (type_of_key t before key.0) (kinds_of args) in
     (row.0.name, row.0.is, row.0.defined, ((λ enters. same.0 (sym row.0.rules ∙ enters-fresh v enters)), (λ reaches. fresh-enters v (row.0.rules ∙ same.1 reaches))))
 enters-rightly _ _ _ _ _ _ _ = tt
@@ -54,9 +54,8 @@ enters-rightly _ _ _ _ _ _ _ = tt
 run-all : (P : Told → Type 0) (t : Table) (names : List Name) (steps : ℕ) (log : List Entry) → ((c : ℕ) (r : Told) → IsRunOf t names steps log c r → P r)
     → (cs : List ℕ) (rs : List Told) → AreRuns t names steps log cs rs → AllByRecursion P rs
 run-all P t names steps log each [] [] are = tt
-run-all P t names steps log each [] (r ∷ rs) are = absurd are
-run-all P t names steps log each (c ∷ cs) [] are = absurd are
 run-all P t names steps log each (c ∷ cs) (r ∷ rs) are = (each c r are.0, run-all P t names steps log each cs rs are.1)
+run-all _ _ _ _ _ _ _ _ are = absurd are
 
 behind-all : (P : Told → Type 0) (t : Table) (names : List Name) (steps : ℕ) (log : List Entry) → ((c : ℕ) (r : Told) → IsRunOf t names steps log c r → P r)
     → (setup_done : Bool) (rs : List Told) → RunBehind t names steps log setup_done rs → AllByRecursion P rs

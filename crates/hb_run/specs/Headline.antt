@@ -31,7 +31,7 @@ DoesEnter v = (way : By) × (v ≡ verdict.Enter way)
 
 -- A call enters its body exactly where a fresh check succeeds in the tables at its place: its method has a definition and a type there, takes the arguments, and the body is judged.
 abbrev pub EntersRightly : Table → List Name → List Entry → Act → Type 0
-EntersRightly t names before (Call q key site args v) = (name : Name) × (place names name ≡ Some key.0) × (site ≡ (spot key.0 before).body)
+EntersRightly t names before (Call key q site args v) = (name : Name) × (place names name ≡ Some key.0) × (site ≡ (spot key.0 before).body)
     × (DoesEnter v ↔ Reaches (IsJudged (types_in t names before)) t name.0 (body_at t site) (type_of_key t before key.0) (kinds_of args))
 EntersRightly t names before _ = Unit {0}
 

@@ -87,13 +87,13 @@ module _ (t : Table) (names : List Name) (limit : ℕ) (log : List Entry) (c : �
 
   -- a call that is entered
   entered : (room : ℕ) → Within room → (fs : List Frame) (before after : List Entry) (p : CallNo) (j : KeyId) (site : Option BodySite) (args : ArgKinds) (v : Verdict) (d : ClassId) (vs : List Value) (held : List Stand) (b : Option Body) (own : Option MethodTy) (s : St)
-      → log ≡ before ++ entry c (Call p j site args v) ∷ after → acts c after ≡ s.journal → p.0 < s.next → AreOlder fs p.0 → AreLive log c fs s.next s.journal
+      → log ≡ before ++ entry c (Call j p site args v) ∷ after → acts c after ≡ s.journal → p.0 < s.next → AreOlder fs p.0 → AreLive log c fs s.next s.journal
       → (e : Reaches (IsJudged (types_in t names before)) t d.0 b own (map kind_of vs))
       → LooksIn (λ k. HoldsName names before (c, p.0) (name_of t k)) (events (types_in t names before) d.0 (subject t d.0 e.body e.declared).block (variables_of (subject t d.0 e.body e.declared)))
       → Ends (AreLive log c fs) e.declared.result s.vars s.self (run_body (λ block s. ev t names (call_in t names room) (tree_at t block) s) p.0 d vs held b s)
   unfolding Within
   entered room ih fs before after p j site args v d vs held b own s is behind young old live e looks =
-      let f : Frame = record { q = p.0; call = Call p j site args v; before = before; after = after } in
+      let f : Frame = record { q = p.0; call = Call j p site args v; before = before; after = after } in
       let Inv : Rest = AreLive log c (f ∷ fs) in
       let x : Subject = subject t d.0 e.body e.declared in
       let k = and_both _ _ e.fits in
@@ -109,7 +109,7 @@ module _ (t : Table) (names : List Name) (limit : ℕ) (log : List Entry) (c : �
 
   -- what follows a verdict copes
   decided_ends : (room : ℕ) → Within room → (fs : List Frame) (pre : List Entry) (since : List Act) (before after : List Entry) (p : CallNo) (j : KeyId) (site : Option BodySite) (args : ArgKinds) (v : Verdict) (id : ℕ) (d : ClassId) (m : ℕ) (vs : List Value) (held : List Stand) (s : St)
-      → log ≡ before ++ entry c (Call p j site args v) ∷ after → ((way : By) → v ≡ verdict.Enter way → acts c after ≡ s.journal) → p.0 < s.next → AreOlder fs p.0
+      → log ≡ before ++ entry c (Call j p site args v) ∷ after → ((way : By) → v ≡ verdict.Enter way → acts c after ≡ s.journal) → p.0 < s.next → AreOlder fs p.0
       → ((way : By) → v ≡ verdict.Enter way → AreLive log c fs s.next s.journal)
       → Reached log c pre since p.0 before → place names (name_of t (d.0, m)) ≡ Some j.0 → kinds_of args ≡ map kind_of vs
       → (P : Answer → Type 0) → Copes t names log c fs pre since p.0 id (d.0, m) (map kind_of vs) s.vars s.self P
@@ -123,7 +123,7 @@ module _ (t : Table) (names : List Name) (limit : ℕ) (log : List Entry) (c : �
       own = type_of_key t before j.0
 
       row : RowAt t names before (c, p.0) (d.0, m) j.0 site kinds v
-      row = row_at t names before (c, p.0) (d.0, m) j.0 site kinds (kinds_of args) v (rows before after (entry c (Call p j site args v)) is).0 there same
+      row = row_at t names before (c, p.0) (d.0, m) j.0 site kinds (kinds_of args) v (rows before after (entry c (Call j p site args v)) is).0 there same
 
       typed : types_in t names before (d.0, m) ≡ own
       typed = key_type t names before (d.0, m) j.0 there
@@ -150,7 +150,7 @@ module _ (t : Table) (names : List Name) (limit : ℕ) (log : List Entry) (c : �
   called_ends room ih fs pre seg since id d m key vs s cut own live there P h NoCall read = h.lost
   called_ends room ih fs pre seg since id d m key vs s cut own live there P h (FullAt rest) read = h.halts stop.Full _ tt
   called_ends room ih fs pre seg since id d m key vs s cut own live there P h (Called site v held rest) read =
-      let call : Act = Call read.number read.key site read.args v in
+      let call : Act = Call read.key read.number site read.args v in
       let at = acts_cut c seg (since ++ read.front) call read.behind (own ∙ ap (λ w. since ++ w) read.is ∙ sym (append_assoc since read.front (call ∷ read.behind))) in
       let before : List Entry = pre ++ at.before in
       let whole : log ≡ before ++ entry c call ∷ at.after = cut ∙ ap (λ w. pre ++ w) at.is ∙ sym (append_assoc pre at.before (entry c call ∷ at.after)) in

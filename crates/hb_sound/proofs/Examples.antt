@@ -59,16 +59,16 @@ defined : Entry
 defined = entry 0 (Define (record { 0 = 0 }) (record { 0 = 0 }))
 
 held : Entry
-held = entry 1 (Hold (record { 0 = 1 }) (record { 0 = 0 }) (Some (record { 0 = 0 })) 1)
+held = entry 1 (Hold (record { 0 = 0 }) (record { 0 = 1 }) (Some (record { 0 = 0 })) 1)
 
 entered : Entry
-entered = entry 1 (Call (record { 0 = 1 }) (record { 0 = 0 }) (Some (record { 0 = 0 })) (record { count = 0; kinds = ty.Nil ∷ ty.Nil ∷ ty.Nil ∷ ty.Nil ∷ [] }) (verdict.Enter by.Fresh))
+entered = entry 1 (Call (record { 0 = 0 }) (record { 0 = 1 }) (Some (record { 0 = 0 })) (record { count = 0; kinds = ty.Nil ∷ ty.Nil ∷ ty.Nil ∷ ty.Nil ∷ [] }) (verdict.Enter by.Fresh))
 
 busy : ℕ → Entry
 busy c = entry c (Busy (record { 0 = 0 }) 1)
 
 freed : Entry
-freed = entry 1 (Free (record { 0 = 1 }) (record { 0 = 0 }))
+freed = entry 1 (Free (record { 0 = 0 }) (record { 0 = 1 }))
 
 front : List Entry
 front = typed ∷ defined ∷ held ∷ []

@@ -139,9 +139,9 @@ IsFilled names log c (Halt e id s) = Fills (length names ≡ NAMES_MAX) e
 
 before_more : (n m : ℕ) (l : List Act) → n ≤ m → AllByRecursion (IsBefore n) l → AllByRecursion (IsBefore m) l
 before_more n m [] le h = tt
-before_more n m (Hold p key ty changes ∷ l) le h = (let low = h.0 in omega (arith, low, le), before_more n m l le h.1)
-before_more n m (Call p key site args v ∷ l) le h = (let low = h.0 in omega (arith, low, le), before_more n m l le h.1)
-before_more n m (Free p key ∷ l) le h = (tt, before_more n m l le h.1)
+before_more n m (Hold key p ty changes ∷ l) le h = (let low = h.0 in omega (arith, low, le), before_more n m l le h.1)
+before_more n m (Call key p site args v ∷ l) le h = (let low = h.0 in omega (arith, low, le), before_more n m l le h.1)
+before_more n m (Free key p ∷ l) le h = (tt, before_more n m l le h.1)
 before_more n m (Retype key site ∷ l) le h = (tt, before_more n m l le h.1)
 before_more n m (Busy key pins ∷ l) le h = (tt, before_more n m l le h.1)
 before_more n m (WornType key ∷ l) le h = (tt, before_more n m l le h.1)
@@ -238,8 +238,7 @@ module _ (t : Table) (names : List Name) (limit : ℕ) (log : List Entry) (c : �
   filled_named : (id : ℕ) (v : Value) (go : List ℕ → St → Answer) → ((bytes : List ℕ) → Keeps (go bytes)) → Keeps (λ s. named id v s (λ bytes. go bytes s))
   unfolding Keeps IsFilled
   filled_named id (value.Str bytes) go k s p = filled_if (is_name bytes) _ _ (k bytes s p) tt
-  filled_named id value.Nil go k s p = tt
-  filled_named id _ go k s p = tt
+  filled_named _ _ _ _ _ _ = tt
 
   unfoldable pub KeepCalls : Calls → Type 0
   KeepCalls call = (id : ℕ) (r : Value) (m : ℕ) (vs : List Value) → Keeps (call id r m vs)
@@ -311,16 +310,12 @@ module _ (t : Table) (names : List Name) (limit : ℕ) (log : List Entry) (c : �
   filled_decided : (id : ℕ) (body : St → Answer) → Keeps body → (v : Verdict) → Keeps (decided id body v)
   unfolding Keeps IsFilled
   filled_decided id body k (verdict.Enter way) s p = k s p
-  filled_decided id body k verdict.NoBody s p = tt
-  filled_decided id body k verdict.NoType s p = tt
-  filled_decided id body k verdict.BadArgs s p = tt
-  filled_decided id body k (verdict.IllTyped f) s p = tt
+  filled_decided _ _ _ _ _ _ = tt
 
   filled_received : (id : ℕ) (v : Value) (go : ClassId → St → Answer) → ((d : ClassId) → Keeps (go d)) → Keeps (λ s. received id (receiver v) s (λ d. go d s))
   unfolding Keeps IsFilled
-  filled_received id value.Nil go k s p = tt
   filled_received id (value.Object d) go k s p = k d s p
-  filled_received id _ go k s p = tt
+  filled_received _ _ _ _ _ _ = tt
 
   module _ (legal : IsLegal limit log) (rules : Every (λ before e. FitsRules t names e.caller.0 before e.act) log) (few : length names ≤ NAMES_MAX) where
     filled_called : (run : ℕ → St → Answer) → ((block : ℕ) → Keeps (run block)) → (id key : ℕ) (d : ClassId) (args : List Value) (r : Read) (s : St)

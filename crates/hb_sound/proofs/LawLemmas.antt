@@ -26,7 +26,7 @@ use Rattle.hb_sound.proofs.{ScriptLemmas.script_tame, NodeLemmas.apart_nodes}
 
 pub call_enters : (t : Table) (names : List Name) (before after : List Entry) (c : ℕ) (q : CallNo) (key : KeyId) (site : Option BodySite) (args : ArgKinds) (way : By)
     → IsDecided t names before (c, q.0) key.0 site (kinds_of args) (Enter way)
-    → Enters t names c (record { q = q.0; call = Call q key site args (Enter way); before = before; after = after }) key.0 site (kinds_of args)
+    → Enters t names c (record { q = q.0; call = Call key q site args (Enter way); before = before; after = after }) key.0 site (kinds_of args)
 call_enters t names before after c q key site args way d =
     let T : Types = types_in t names before in
     let kinds = kinds_of args in

@@ -27,7 +27,7 @@ pub record CallRead (q k : ℕ) (kinds : List Ty) (l : List Act) (site : Option 
   pub key : KeyId
   pub args : ArgKinds
   pub behind : List Act
-  pub is : l ≡ front ++ Call number key site args v ∷ behind
+  pub is : l ≡ front ++ Call key number site args v ∷ behind
   pub of_call : number.0 ≡ q
   pub of_key : key.0 ≡ k
   pub of_kinds : kinds_of args ≡ kinds
@@ -67,7 +67,7 @@ kinds_same [] (u ∷ us) h = absurd (cc)
 kinds_same (t ∷ ts) [] h = absurd (cc)
 kinds_same (t ∷ ts) (u ∷ us) h = let p = and_both _ _ h in ap (λ x. x ∷ us) (sym (same_ty_is t u p.0)) ∙ ap (λ w. t ∷ w) (kinds_same ts us p.1)
 
-other_free : (q : ℕ) (p : CallNo) (j : KeyId) → nat_eq p.0 q ≡ true → (n : ℕ) → n ≢ q → frees n (Free p j) ≡ false
+other_free : (q : ℕ) (p : CallNo) (j : KeyId) → nat_eq p.0 q ≡ true → (n : ℕ) → n ≢ q → frees n (Free j p) ≡ false
 other_free q p j e n ne = ne_eqb n p.0 (λ is. ne (is ∙ eqb-true p.0 q e))
 
 -- a Free of the call's own key ends what is read, with no call
@@ -77,18 +77,18 @@ full_reads q k kinds l None = tt
 full_reads q k kinds l (Some rest) = tt
 
 -- what is read at a Call
-call_reads : (q k : ℕ) (kinds : List Ty) (p : CallNo) (j : KeyId) (site : Option BodySite) (args : ArgKinds) (v : Verdict) (held : List Stand) (l : List Act) → p.0 ≡ q → j.0 ≡ k → kinds_of args ≡ kinds → HasRead q k kinds (Call p j site args v ∷ l) (called q site v held l)
+call_reads : (q k : ℕ) (kinds : List Ty) (p : CallNo) (j : KeyId) (site : Option BodySite) (args : ArgKinds) (v : Verdict) (held : List Stand) (l : List Act) → p.0 ≡ q → j.0 ≡ k → kinds_of args ≡ kinds → HasRead q k kinds (Call j p site args v ∷ l) (called q site v held l)
 unfolding HasRead
 call_reads q k kinds p j site args v held l pq jk same = by v
   where
-    here : (v : Verdict) (rest : List Act) → ((way : By) → v ≡ verdict.Enter way → l ≡ rest) → CallRead q k kinds (Call p j site args v ∷ l) site v rest
+    here : (v : Verdict) (rest : List Act) → ((way : By) → v ≡ verdict.Enter way → l ≡ rest) → CallRead q k kinds (Call j p site args v ∷ l) site v rest
     here v rest f = record { front = []; number = p; key = j; args = args; behind = l; is = refl; of_call = pq; of_key = jk; of_kinds = same; quiet = λ n ne. tt; enters = f }
 
-    refused : (v : Verdict) → ((way : By) → v ≡ verdict.Enter way → ⊥) → (o : Option (List Act)) → HasRead q k kinds (Call p j site args v ∷ l) (refused_at site v o)
+    refused : (v : Verdict) → ((way : By) → v ≡ verdict.Enter way → ⊥) → (o : Option (List Act)) → HasRead q k kinds (Call j p site args v ∷ l) (refused_at site v o)
     refused v f None = tt
     refused v f (Some rest) = here v rest (λ way e. absurd (f way e))
 
-    by : (v : Verdict) → HasRead q k kinds (Call p j site args v ∷ l) (called q site v held l)
+    by : (v : Verdict) → HasRead q k kinds (Call j p site args v ∷ l) (called q site v held l)
     by (verdict.Enter way) = here (verdict.Enter way) l (λ w e. refl)
     by verdict.NoBody = refused verdict.NoBody (λ way e. cc) (freed q held l)
     by verdict.NoType = refused verdict.NoType (λ way e. cc) (freed q held l)
@@ -97,16 +97,16 @@ call_reads q k kinds p j site args v held l pq jk same = by v
 
 decision_reads : (fits : Bool) (q k : ℕ) (kinds : List Ty) (held : List Stand) (l : List Act) → HasRead q k kinds l (decision fits q k kinds held l)
 unfolding HasRead
-decision_reads fits q k kinds held (Hold p j ty n ∷ l) = read_if q k kinds (Hold p j ty n ∷ l) (fits && nat_eq p.0 q) _ Lost (λ e. read_behind q k kinds (Hold p j ty n) l _ (λ m ne. refl) (decision_reads fits q k kinds (held ++ record { key = j.0; ty = ty; changes = n } ∷ []) l)) tt
-decision_reads fits q k kinds held (Free p j ∷ l) = read_if q k kinds (Free p j ∷ l) (fits && nat_eq p.0 q) _ Lost
-    (λ e. read_if q k kinds (Free p j ∷ l) (nat_eq j.0 k) _ _ (λ _. full_reads q k kinds (Free p j ∷ l) (freed q held (Free p j ∷ l))) (read_behind q k kinds (Free p j) l _ (other_free q p j (and_both _ _ e).1) (decision_reads fits q k kinds (all_but j.0 held) l))) tt
-decision_reads fits q k kinds held (Call p j site args v ∷ l) = read_if q k kinds (Call p j site args v ∷ l) (nat_eq p.0 q && nat_eq j.0 k && same_kinds kinds (kinds_of args)) (called q site v held l) Lost
+decision_reads fits q k kinds held (Hold j p ty n ∷ l) = read_if q k kinds (Hold j p ty n ∷ l) (fits && nat_eq p.0 q) _ Lost (λ e. read_behind q k kinds (Hold j p ty n) l _ (λ m ne. refl) (decision_reads fits q k kinds (held ++ record { key = j.0; ty = ty; changes = n } ∷ []) l)) tt
+decision_reads fits q k kinds held (Free j p ∷ l) = read_if q k kinds (Free j p ∷ l) (fits && nat_eq p.0 q) _ Lost
+    (λ e. read_if q k kinds (Free j p ∷ l) (nat_eq j.0 k) _ _ (λ _. full_reads q k kinds (Free j p ∷ l) (freed q held (Free j p ∷ l))) (read_behind q k kinds (Free j p) l _ (other_free q p j (and_both _ _ e).1) (decision_reads fits q k kinds (all_but j.0 held) l))) tt
+decision_reads fits q k kinds held (Call j p site args v ∷ l) = read_if q k kinds (Call j p site args v ∷ l) (nat_eq p.0 q && nat_eq j.0 k && same_kinds kinds (kinds_of args)) (called q site v held l) Lost
     (λ e. let a = and_both _ _ e in let b = and_both _ _ a.0 in call_reads q k kinds p j site args v held l (eqb-true p.0 q b.0) (eqb-true j.0 k b.1) (kinds_same kinds (kinds_of args) a.1)) tt
 decision_reads _ _ _ _ _ _ = tt
 
 pub call_of_reads : (t : Table) (q k : ℕ) (kinds : List Ty) (l : List Act) → HasRead q k kinds l (call_of t q k kinds l)
 unfolding HasRead
-call_of_reads t q k kinds (Hold p j ty n ∷ l) = read_if q k kinds (Hold p j ty n ∷ l) (nat_eq p.0 q && nat_eq j.0 k) _ Lost (λ e. read_behind q k kinds (Hold p j ty n) l _ (λ m ne. refl) (decision_reads (takes_at t ty kinds) q k kinds (record { key = j.0; ty = ty; changes = n } ∷ []) l)) tt
+call_of_reads t q k kinds (Hold j p ty n ∷ l) = read_if q k kinds (Hold j p ty n ∷ l) (nat_eq p.0 q && nat_eq j.0 k) _ Lost (λ e. read_behind q k kinds (Hold j p ty n) l _ (λ m ne. refl) (decision_reads (takes_at t ty kinds) q k kinds (record { key = j.0; ty = ty; changes = n } ∷ []) l)) tt
 call_of_reads _ _ _ _ _ = tt
 
 -- Frees of one call were read, which free no other
@@ -117,9 +117,9 @@ pub record FreesRead (q : ℕ) (l rest : List Act) : Type 0 where
 
 pub freed_reads : (q : ℕ) (held : List Stand) (l rest : List Act) → freed q held l ≡ Some rest → FreesRead q l rest
 freed_reads q [] l rest e = record { front = []; is = cc; quiet = λ n ne. tt }
-freed_reads q (h ∷ hs) (Free p j ∷ l) rest e = go (nat_eq p.0 q && nat_eq j.0 h.key) refl e (freed_reads q hs l rest)
+freed_reads q (h ∷ hs) (Free j p ∷ l) rest e = go (nat_eq p.0 q && nat_eq j.0 h.key) refl e (freed_reads q hs l rest)
   where
-    go : (b : Bool) → (nat_eq p.0 q && nat_eq j.0 h.key) ≡ b → (if b then freed q hs l else None) ≡ Some rest → (freed q hs l ≡ Some rest → FreesRead q l rest) → FreesRead q (Free p j ∷ l) rest
-    go true t e r = let s = r e in record { front = Free p j ∷ s.front; is = ap (λ w. Free p j ∷ w) s.is; quiet = λ n ne. (other_free q p j (and_both _ _ t).0 n ne, s.quiet n ne) }
+    go : (b : Bool) → (nat_eq p.0 q && nat_eq j.0 h.key) ≡ b → (if b then freed q hs l else None) ≡ Some rest → (freed q hs l ≡ Some rest → FreesRead q l rest) → FreesRead q (Free j p ∷ l) rest
+    go true t e r = let s = r e in record { front = Free j p ∷ s.front; is = ap (λ w. Free j p ∷ w) s.is; quiet = λ n ne. (other_free q p j (and_both _ _ t).0 n ne, s.quiet n ne) }
     go false t e r = absurd (cc)
 freed_reads q _ _ rest e = absurd (cc)

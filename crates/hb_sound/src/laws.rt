@@ -42,7 +42,7 @@ ghost use Rattle.hb_sound.specs.Sound.{IsNamed, Sound, Stands};
 pub fn entered_bodies_are_judged()
     ensures { (t : Table) (names : List Name) (before after : List Entry) (c : ℕ) (q : CallNo) (key : KeyId) (site : Option BodySite) (args : ArgKinds) (way : By)
         → IsDecided t names before (c, q.0) key.0 site (kinds_of args) (Enter way)
-        → Enters t names c (record { q = q.0; call = Call q key site args (Enter way); before = before; after = after }) key.0 site (kinds_of args) }
+        → Enters t names c (record { q = q.0; call = Call key q site args (Enter way); before = before; after = after }) key.0 site (kinds_of args) }
 {}
 
 /// Each part of an expression that is judged in the tables at a frame's Call is reached with some variables, and is judged there from these.

@@ -14,11 +14,11 @@ same_self : (x : ℕ × ℕ) → same_call x x ≡ true
 same_self x = let a = eq-eqb x.0 x.0 refl in let b = eq-eqb x.1 x.1 refl in rw (a, b) refl
 
 -- after its hold a call holds the key once
-pub held_after : (c : ℕ) (old new : List Entry) (q : CallNo) (key : KeyId) (ty : Rattle.std.specs.Prelude.Option TypeSite) (n : ℕ) → Adds c old new (Hold q key ty n)
+pub held_after : (c : ℕ) (old new : List Entry) (q : CallNo) (key : KeyId) (ty : Rattle.std.specs.Prelude.Option TypeSite) (n : ℕ) → Adds c old new (Hold key q ty n)
     → times (c, q.0) (spot key.0 old).calls ≡ 0 → times (c, q.0) (spot key.0 new).calls ≡ 1
 held_after c old new q key ty n adds none =
-    let e : Entry = entry c (Hold q key ty n) in
-    let is : spot key.0 new ≡ done c (spot key.0 (old ++ adds.0)) (Hold q key ty n) = ap (spot key.0) adds.1 ∙ (spot_more key.0 (old ++ adds.0) e ∙ turn_here key.0 (spot key.0 (old ++ adds.0)) e refl) in
+    let e : Entry = entry c (Hold key q ty n) in
+    let is : spot key.0 new ≡ done c (spot key.0 (old ++ adds.0)) (Hold key q ty n) = ap (spot key.0) adds.1 ∙ (spot_more key.0 (old ++ adds.0) e ∙ turn_here key.0 (spot key.0 (old ++ adds.0)) e refl) in
     let one = same_self (c, q.0) in let before = own_stays key.0 c q.0 old adds.0 adds.2 in
     subst (λ (s : Spot). times (c, q.0) s.calls ≡ 1) (sym is) (rw one (omega (arith, before, none)))
 

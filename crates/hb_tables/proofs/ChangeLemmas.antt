@@ -21,23 +21,23 @@ Defined given s z = (z.body ≡ last_or s.body given) × (z.redefs ≡ s.redefs 
 
 done_typed : (k c : ℕ) (s : Spot) (a : Act) → Typed (type_given k a) s (cond (eqb k (key_of a)) (done c s a) s)
 done_typed k c s (Retype key site) = elim (eqb k key.0) as (λ b. Typed (cond b (site ∷ []) []) s (cond b (done c s (Retype key site)) s)) [ true ↦ (refl, omega arith) | false ↦ (refl, omega arith) ]
-done_typed k c s (Hold q key ty changes) = elim (eqb k key.0) as (λ b. Typed [] s (cond b (done c s (Hold q key ty changes)) s)) [ true ↦ (refl, omega arith) | false ↦ (refl, omega arith) ]
-done_typed k c s (Free q key) = elim (eqb k key.0) as (λ b. Typed [] s (cond b (done c s (Free q key)) s)) [ true ↦ (refl, omega arith) | false ↦ (refl, omega arith) ]
+done_typed k c s (Hold key q ty changes) = elim (eqb k key.0) as (λ b. Typed [] s (cond b (done c s (Hold key q ty changes)) s)) [ true ↦ (refl, omega arith) | false ↦ (refl, omega arith) ]
+done_typed k c s (Free key q) = elim (eqb k key.0) as (λ b. Typed [] s (cond b (done c s (Free key q)) s)) [ true ↦ (refl, omega arith) | false ↦ (refl, omega arith) ]
 done_typed k c s (Busy key pins) = elim (eqb k key.0) as (λ b. Typed [] s (cond b s s)) [ true ↦ (refl, omega arith) | false ↦ (refl, omega arith) ]
 done_typed k c s (WornType key) = elim (eqb k key.0) as (λ b. Typed [] s (cond b s s)) [ true ↦ (refl, omega arith) | false ↦ (refl, omega arith) ]
 done_typed k c s (Define key site) = elim (eqb k key.0) as (λ b. Typed [] s (cond b (done c s (Define key site)) s)) [ true ↦ (refl, omega arith) | false ↦ (refl, omega arith) ]
 done_typed k c s (WornDef key) = elim (eqb k key.0) as (λ b. Typed [] s (cond b s s)) [ true ↦ (refl, omega arith) | false ↦ (refl, omega arith) ]
-done_typed k c s (Call q key site args verdict) = elim (eqb k key.0) as (λ b. Typed [] s (cond b s s)) [ true ↦ (refl, omega arith) | false ↦ (refl, omega arith) ]
+done_typed k c s (Call key q site args verdict) = elim (eqb k key.0) as (λ b. Typed [] s (cond b s s)) [ true ↦ (refl, omega arith) | false ↦ (refl, omega arith) ]
 
 done_defined : (k c : ℕ) (s : Spot) (a : Act) → Defined (body_given k a) s (cond (eqb k (key_of a)) (done c s a) s)
 done_defined k c s (Define key site) = elim (eqb k key.0) as (λ b. Defined (cond b (site ∷ []) []) s (cond b (done c s (Define key site)) s)) [ true ↦ (refl, omega arith) | false ↦ (refl, omega arith) ]
-done_defined k c s (Hold q key ty changes) = elim (eqb k key.0) as (λ b. Defined [] s (cond b (done c s (Hold q key ty changes)) s)) [ true ↦ (refl, omega arith) | false ↦ (refl, omega arith) ]
-done_defined k c s (Free q key) = elim (eqb k key.0) as (λ b. Defined [] s (cond b (done c s (Free q key)) s)) [ true ↦ (refl, omega arith) | false ↦ (refl, omega arith) ]
+done_defined k c s (Hold key q ty changes) = elim (eqb k key.0) as (λ b. Defined [] s (cond b (done c s (Hold key q ty changes)) s)) [ true ↦ (refl, omega arith) | false ↦ (refl, omega arith) ]
+done_defined k c s (Free key q) = elim (eqb k key.0) as (λ b. Defined [] s (cond b (done c s (Free key q)) s)) [ true ↦ (refl, omega arith) | false ↦ (refl, omega arith) ]
 done_defined k c s (Retype key site) = elim (eqb k key.0) as (λ b. Defined [] s (cond b (done c s (Retype key site)) s)) [ true ↦ (refl, omega arith) | false ↦ (refl, omega arith) ]
 done_defined k c s (Busy key pins) = elim (eqb k key.0) as (λ b. Defined [] s (cond b s s)) [ true ↦ (refl, omega arith) | false ↦ (refl, omega arith) ]
 done_defined k c s (WornType key) = elim (eqb k key.0) as (λ b. Defined [] s (cond b s s)) [ true ↦ (refl, omega arith) | false ↦ (refl, omega arith) ]
 done_defined k c s (WornDef key) = elim (eqb k key.0) as (λ b. Defined [] s (cond b s s)) [ true ↦ (refl, omega arith) | false ↦ (refl, omega arith) ]
-done_defined k c s (Call q key site args verdict) = elim (eqb k key.0) as (λ b. Defined [] s (cond b s s)) [ true ↦ (refl, omega arith) | false ↦ (refl, omega arith) ]
+done_defined k c s (Call key q site args verdict) = elim (eqb k key.0) as (λ b. Defined [] s (cond b s s)) [ true ↦ (refl, omega arith) | false ↦ (refl, omega arith) ]
 
 typed_from : (k : ℕ) (s : Spot) (xs : List Entry) → Typed (types_given k xs) s (spot_from k s xs)
 typed_from k s [] = (refl, omega arith)

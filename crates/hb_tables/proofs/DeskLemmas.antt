@@ -38,7 +38,7 @@ def_apart c q old new key site defined.Worn h = adds_apart c q old new (WornDef 
 
 pub decides_apart : (c p : ℕ) (old new : List Entry) (q : CallNo) (key owner : KeyId) (look : Look) (args : ArgKinds) (v : Verdict) (r : Result (Unit {0}) Look)
     → Decides c old new q key owner look args v r → standing p (acts c new) ≡ standing p (acts c old)
-decides_apart c p old new q key owner look args v (Ok _) h = adds_apart c p old new (Call q key look.site args v) (h.0, h.1, h.2) refl
+decides_apart c p old new q key owner look args v (Ok _) h = adds_apart c p old new (Call key q look.site args v) (h.0, h.1, h.2) refl
 decides_apart c p old new q key owner look args v (Err newer) h = ap (standing p) (learns_acts c old new h.0)
 
 pub adds_stand : (c q : ℕ) (old new : List Entry) (a : Act) → Adds c old new a → standing q (acts c new) ≡ stand_done q (standing q (acts c old)) a

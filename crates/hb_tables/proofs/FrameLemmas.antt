@@ -73,12 +73,12 @@ no_free c d q p h = go (eqb c d) refl
 
 -- an act keeps a call's hold, but for its own Free
 hold_done : (c q d : ℕ) (s : Spot) (a : Act) → (c ≡ d → frees q a ≡ false) → 1 ≤ times (c, q) s.calls → 1 ≤ times (c, q) (done d s a).calls
-hold_done c q d s (Hold p key ty changes) h n = omega arith
-hold_done c q d s (Free p key) h n = let e = times_other (c, q) (d, p.0) s.calls (no_free c d q p.0 h) in omega (arith, e, n)
+hold_done c q d s (Hold key p ty changes) h n = omega arith
+hold_done c q d s (Free key p) h n = let e = times_other (c, q) (d, p.0) s.calls (no_free c d q p.0 h) in omega (arith, e, n)
 hold_done _ _ _ _ _ _ n = n
 
 frees_here : (q k : ℕ) (a : Act) → frees_key q k a ≡ false → k ≡ key_of a → frees q a ≡ false
-frees_here q k (Free p key) h is = go (eqb q p.0) h
+frees_here q k (Free key p) h is = go (eqb q p.0) h
   where
     go : (b : Bool) → (b && eqb k key.0) ≡ false → b ≡ false
     go true h = absurd (let e = eq-eqb k key.0 is in cc)
@@ -120,14 +120,14 @@ live_keeps q k [] h = tt
 live_keeps q k (a ∷ l) h = (one a h.0, live_keeps q k l h.1)
   where
     one : (a : Act) → frees q a ≡ false → frees_key q k a ≡ false
-    one (Free p key) h = ap (λ b. b && eqb k key.0) h
-    one (Hold p key ty changes) h = refl
+    one (Free key p) h = ap (λ b. b && eqb k key.0) h
+    one (Hold key p ty changes) h = refl
     one (Retype key site) h = refl
     one (Busy key pins) h = refl
     one (WornType key) h = refl
     one (Define key site) h = refl
     one (WornDef key) h = refl
-    one (Call p key site args verdict) h = refl
+    one (Call key p site args verdict) h = refl
 
 -- while a frame is live, the types of its keys stay
 pub frame_keeps : (limit k c q : ℕ) (before rest : List Entry) → IsLegal limit (before ++ rest) → StaysLive q (acts c rest) → times (c, q) (spot k before).calls ≡ 1
@@ -143,15 +143,15 @@ no_retype limit k c q before rest after d key site legal live once is =
     let z : length (spot k (before ++ rest)).calls ≡ 0 = subst (λ j. length (spot j (before ++ rest)).calls ≡ 0) is f.0 in
     let m = times_length (c, q) (spot k (before ++ rest)).calls in omega (arith, z, n, m)
 
-pub held_since : (limit c : ℕ) (before rest : List Entry) (q : CallNo) (key : KeyId) (ty : Option TypeSite) (n : ℕ) → IsLegal limit (before ++ entry c (Hold q key ty n) ∷ rest) → KeepsHold q.0 key.0 (acts c rest)
-    → ((spot key.0 (before ++ entry c (Hold q key ty n) ∷ rest)).ty ≡ ty) × ((spot key.0 (before ++ entry c (Hold q key ty n) ∷ rest)).changes ≡ n)
-    × (1 ≤ times (c, q.0) (spot key.0 (before ++ entry c (Hold q key ty n) ∷ rest)).calls)
+pub held_since : (limit c : ℕ) (before rest : List Entry) (q : CallNo) (key : KeyId) (ty : Option TypeSite) (n : ℕ) → IsLegal limit (before ++ entry c (Hold key q ty n) ∷ rest) → KeepsHold q.0 key.0 (acts c rest)
+    → ((spot key.0 (before ++ entry c (Hold key q ty n) ∷ rest)).ty ≡ ty) × ((spot key.0 (before ++ entry c (Hold key q ty n) ∷ rest)).changes ≡ n)
+    × (1 ≤ times (c, q.0) (spot key.0 (before ++ entry c (Hold key q ty n) ∷ rest)).calls)
 held_since limit c before rest q key ty n legal keeps =
-    let e : Entry = entry c (Hold q key ty n) in
+    let e : Entry = entry c (Hold key q ty n) in
     let here : List Entry = before ++ e ∷ [] in
     let row = legal before rest e refl in
     let same : here ++ rest ≡ before ++ e ∷ rest = append_assoc before (e ∷ []) rest in
-    let is : spot key.0 here ≡ done c (spot key.0 before) (Hold q key ty n) = spot_more key.0 before e ∙ turn_here key.0 (spot key.0 before) e refl in
+    let is : spot key.0 here ≡ done c (spot key.0 before) (Hold key q ty n) = spot_more key.0 before e ∙ turn_here key.0 (spot key.0 before) e refl in
     let once : 1 ≤ times (c, q.0) (spot key.0 here).calls = subst (λ (w : Spot). 1 ≤ times (c, q.0) w.calls) (sym is) (let a = eq-eqb c c refl in let b = eq-eqb q.0 q.0 refl in rw (a, b) (omega arith)) in
     let k = hold_keeps limit key.0 c q.0 here rest (subst (IsLegal limit) (sym same) legal) keeps once in (
       ap (λ l. (spot key.0 l).ty) (sym same) ∙ k.0 ∙ ap (λ (w : Spot). w.ty) is ∙ sym row.0,

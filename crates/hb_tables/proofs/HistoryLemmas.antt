@@ -74,13 +74,13 @@ legal_climb limit = every_climb (Fits limit)
 
 -- what a caller's calls are after an act depends on its own acts alone
 own_done : (c : ℕ) (s t : Spot) (a : Act) → of_caller c s.calls ≡ of_caller c t.calls → of_caller c (done c s a).calls ≡ of_caller c (done c t a).calls
-own_done c s t (Hold q key ty changes) e = let h = eq-eqb c c refl in rw h (ap (λ w. (c, q.0) ∷ w) e)
-own_done c s t (Free q key) e = own_without c q.0 s.calls ∙ (ap (without (c, q.0)) e ∙ sym (own_without c q.0 t.calls))
+own_done c s t (Hold key q ty changes) e = let h = eq-eqb c c refl in rw h (ap (λ w. (c, q.0) ∷ w) e)
+own_done c s t (Free key q) e = own_without c q.0 s.calls ∙ (ap (without (c, q.0)) e ∙ sym (own_without c q.0 t.calls))
 own_done _ _ _ _ e = e
 
 other_done : (c d : ℕ) (s : Spot) (a : Act) → c ≢ d → of_caller c (done d s a).calls ≡ of_caller c s.calls
-other_done c d s (Hold q key ty changes) ne = let h = ne_eqb c d ne in rw h refl
-other_done c d s (Free q key) ne = own_without_other c d q.0 s.calls ne
+other_done c d s (Hold key q ty changes) ne = let h = ne_eqb c d ne in rw h refl
+other_done c d s (Free key q) ne = own_without_other c d q.0 s.calls ne
 other_done _ _ _ _ _ = refl
 
 own_from : (k c : ℕ) (s t : Spot) (xs : List Entry) → of_caller c s.calls ≡ of_caller c t.calls → of_caller c (spot_from k s xs).calls ≡ of_caller c (spot_from k t (journal c xs)).calls
@@ -107,7 +107,7 @@ sound_blank : (limit : ℕ) → Sound limit blank
 sound_blank limit = record { changes = omega arith; redefs = omega arith; ty = omega arith; body = omega arith; few = λ c. omega arith; once = λ x. omega arith }
 
 sound_done : (limit c : ℕ) (s : Spot) (a : Act) → Sound limit s → FitsAct limit c s a → Sound limit (done c s a)
-sound_done limit c s (Hold q key ty changes) w f = record {
+sound_done limit c s (Hold key q ty changes) w f = record {
   changes = w.changes;
   redefs = w.redefs;
   ty = w.ty;
@@ -116,7 +116,7 @@ sound_done limit c s (Hold q key ty changes) w f = record {
       rw h (omega arith)) (λ ne. let h = ne_eqb d c ne in let n = w.few d in rw h n);
   once = λ x. times_more x (c, q.0) s.calls f.2 (w.once x);
 }
-sound_done limit c s (Free q key) w f = record {
+sound_done limit c s (Free key q) w f = record {
   changes = w.changes;
   redefs = w.redefs;
   ty = w.ty;
@@ -139,7 +139,7 @@ sound limit log legal = legal_climb limit (λ l. (k : ℕ) → Sound limit (spot
     (λ l e w f k. spread k l e (Sound limit) (λ _. w k) (λ _. sound_done limit e.caller.0 (spot (key_of e.act) l) e.act (w (key_of e.act)) f)) log legal
 
 done_redefs : (c : ℕ) (s : Spot) (a : Act) → s.redefs ≤ (done c s a).redefs
-done_redefs c s (Hold q key ty changes) = omega arith
+done_redefs c s (Hold key q ty changes) = omega arith
 done_redefs c s _ = omega arith
 
 done_body : (c : ℕ) (s : Spot) (a : Act) → (done c s a).redefs ≡ s.redefs → (done c s a).body ≡ s.body
@@ -174,7 +174,7 @@ redefs_same k xs ys p = subst (λ w. (spot k w).redefs ≡ (spot k xs).redefs �
     (subst (λ (w : Spot). w.redefs ≡ (spot k xs).redefs → w.body ≡ (spot k xs).body) (sym (spot_from_append k blank xs p.0)) (body_from k (spot k xs) p.0))
 
 done_changes : (c : ℕ) (s : Spot) (a : Act) → s.changes ≤ (done c s a).changes
-done_changes c s (Hold q key ty changes) = omega arith
+done_changes c s (Hold key q ty changes) = omega arith
 done_changes c s _ = omega arith
 
 done_ty : (c : ℕ) (s : Spot) (a : Act) → (done c s a).changes ≡ s.changes → (done c s a).ty ≡ s.ty

@@ -19,7 +19,7 @@ record Began (q k : ℕ) (l : List Act) : Type 0 where
   ty : Option TypeSite
   changes : ℕ
   back : List Act
-  is : l ≡ front ++ Hold p key ty changes ∷ back
+  is : l ≡ front ++ Hold key p ty changes ∷ back
   call : q ≡ p.0
   same : k ≡ key.0
   keeps : KeepsHold q k back
@@ -29,25 +29,25 @@ Kept : ℕ → ℕ → List Stand → Act → Type 0
 Kept q k hs a = (1 ≤ count_of k hs) × (frees_key q k a ≡ false)
 
 Begins : ℕ → ℕ → Act → Type 0
-Begins q k (Hold p key ty changes) = (q ≡ p.0) × (k ≡ key.0)
+Begins q k (Hold key p ty changes) = (q ≡ p.0) × (k ≡ key.0)
 Begins q k _ = ⊥
 
 one_act : (q k : ℕ) (hs : List Stand) (a : Act) → 1 ≤ count_of k (stand_done q hs a) → Kept q k hs a ⊎ Begins q k a
 unfolding Kept Begins
-one_act q k hs (Hold p key ty changes) h = go (eqb q p.0) refl (eqb k key.0) refl h
+one_act q k hs (Hold key p ty changes) h = go (eqb q p.0) refl (eqb k key.0) refl h
   where
     none : (b : Bool) → b ≡ false → (let z : ℕ = cond b 1 0 in z) ≡ 0
     none false e = refl
     none true e = absurd (cc e)
 
     go : (a : Bool) → eqb q p.0 ≡ a → (b : Bool) → eqb k key.0 ≡ b → 1 ≤ count_of k (cond a (hs ++ record { key = key.0; ty = ty; changes = changes } ∷ []) hs)
-        → Kept q k hs (Hold p key ty changes) ⊎ Begins q k (Hold p key ty changes)
+        → Kept q k hs (Hold key p ty changes) ⊎ Begins q k (Hold key p ty changes)
     go true ea true eb h = inr (eqb-true q p.0 ea, eqb-true k key.0 eb)
     go true ea false eb h = let n = count_last k hs (record { key = key.0; ty = ty; changes = changes }) in let z = none (eqb k key.0) eb in inl (omega (arith, n, z, h), refl)
     go false ea b eb h = inl (h, refl)
-one_act q k hs (Free p key) h = go (eqb q p.0) refl (eqb k key.0) refl h
+one_act q k hs (Free key p) h = go (eqb q p.0) refl (eqb k key.0) refl h
   where
-    go : (a : Bool) → eqb q p.0 ≡ a → (b : Bool) → eqb k key.0 ≡ b → 1 ≤ count_of k (cond a (all_but key.0 hs) hs) → Kept q k hs (Free p key) ⊎ Begins q k (Free p key)
+    go : (a : Bool) → eqb q p.0 ≡ a → (b : Bool) → eqb k key.0 ≡ b → 1 ≤ count_of k (cond a (all_but key.0 hs) hs) → Kept q k hs (Free key p) ⊎ Begins q k (Free key p)
     go true ea true eb h = let n = count_but k key.0 hs ∙ ap (λ b. cond b 0 (count_of k hs)) eb in absurd (omega (arith, n, h))
     go true ea false eb h = let n = count_but k key.0 hs ∙ ap (λ b. cond b 0 (count_of k hs)) eb in inl (omega (arith, n, h), rw (ea, eb) refl)
     go false ea b eb h = inl (h, rw ea refl)
@@ -62,7 +62,7 @@ began q k hs (a ∷ l) h = ⊎_elim (λ r. first a r (one_act q k hs a r.0)) (λ
     later r = record { front = a ∷ r.front; p = r.p; key = r.key; ty = r.ty; changes = r.changes; back = r.back; is = ap (λ w. a ∷ w) r.is; call = r.call; same = r.same; keeps = r.keeps }
 
     here : (a : Act) → Begins q k a → KeepsHold q k l → Began q k (a ∷ l)
-    here (Hold p key ty changes) b keeps = record { front = []; p = p; key = key; ty = ty; changes = changes; back = l; is = refl; call = b.0; same = b.1; keeps = keeps }
+    here (Hold key p ty changes) b keeps = record { front = []; p = p; key = key; ty = ty; changes = changes; back = l; is = refl; call = b.0; same = b.1; keeps = keeps }
     here _ b _ = absurd b
 
     first : (a : Act) → (1 ≤ count_of k (stand_done q hs a)) × KeepsHold q k l → Kept q k hs a ⊎ Begins q k a → ((1 ≤ count_of k hs) × KeepsHold q k (a ∷ l)) ⊎ Began q k (a ∷ l)
@@ -78,14 +78,14 @@ holds_since c q key log h = ⊎_elim (λ r. absurd (let l = r.0 in omega (arith,
 
     found : Began q.0 key.0 (acts c log) → HoldsSince c q key log
     found b =
-        let at = acts_cut c log b.front (Hold b.p b.key b.ty b.changes) b.back b.is in
+        let at = acts_cut c log b.front (Hold b.key b.p b.ty b.changes) b.back b.is in
         let call : b.p ≡ q = λ i. record { 0 = sym b.call i } in let same : b.key ≡ key = λ i. record { 0 = sym b.same i } in
         record {
           before = at.before;
           ty = b.ty;
           changes = b.changes;
           after = at.after;
-          is = at.is ∙ ap (λ x. at.before ++ entry c (Hold x b.key b.ty b.changes) ∷ at.after) call ∙ ap (λ x. at.before ++ entry c (Hold q x b.ty b.changes) ∷ at.after) same;
+          is = at.is ∙ ap (λ x. at.before ++ entry c (Hold b.key x b.ty b.changes) ∷ at.after) call ∙ ap (λ x. at.before ++ entry c (Hold x q b.ty b.changes) ∷ at.after) same;
           keeps = subst (KeepsHold q.0 key.0) (sym at.last) b.keeps;
         }
 

@@ -81,16 +81,16 @@ pins_low limit log states owed k w =
 
 pub hold_tables : (limit : ℕ) (log : List Entry) (states : List KeyState) (owed c : ℕ) (q : CallNo) (key : KeyId) (s : KeyState) → AreTables limit log states owed → c < 256 → key.0 < NAMES_MAX → s ≡ get_or states key.0 s
     → times (c, q.0) (spot key.0 log).calls ≡ 0 → length (of_caller c (spot key.0 log).calls) < HOLDS_MAX
-    → AreTables limit (log ++ entry c (Hold q key s.ty s.changes) ∷ []) (set states key.0 (record s { pins = s.pins + 1 })) (owed + 1)
+    → AreTables limit (log ++ entry c (Hold key q s.ty s.changes) ∷ []) (set states key.0 (record s { pins = s.pins + 1 })) (owed + 1)
 hold_tables limit log states owed c q key s w low inside read none few =
     let m = matches_at limit log states owed key s w inside read in
-    tables_more limit log states owed c (Hold q key s.ty s.changes) (record s { pins = s.pins + 1 }) (owed + 1) w low inside (m.0, m.1, none, few) (m.0, m.1, m.2, m.3, (let p = m.4 in omega arith)) (omega arith)
+    tables_more limit log states owed c (Hold key q s.ty s.changes) (record s { pins = s.pins + 1 }) (owed + 1) w low inside (m.0, m.1, none, few) (m.0, m.1, m.2, m.3, (let p = m.4 in omega arith)) (omega arith)
 
 -- what a free finds and leaves
 pub record Freed (limit : ℕ) (log : List Entry) (states : List KeyState) (owed c : ℕ) (q : CallNo) (key : KeyId) (s : KeyState) : Type 0 where
   pub pins : 1 ≤ s.pins
   pub some : 1 ≤ owed
-  pub tables : AreTables limit (log ++ entry c (Free q key) ∷ []) (set states key.0 (record s { pins = s.pins - 1 })) (owed - 1)
+  pub tables : AreTables limit (log ++ entry c (Free key q) ∷ []) (set states key.0 (record s { pins = s.pins - 1 })) (owed - 1)
 
 pub free_tables : (limit : ℕ) (log : List Entry) (states : List KeyState) (owed c : ℕ) (q : CallNo) (key : KeyId) (s : KeyState) → AreTables limit log states owed → c < 256 → key.0 < NAMES_MAX → s ≡ get_or states key.0 s
     → times (c, q.0) (spot key.0 log).calls ≡ 1 → Freed limit log states owed c q key s
@@ -101,7 +101,7 @@ free_tables limit log states owed c q key s w low inside read one =
     record {
       pins = omega (arith, n, one, p);
       some = omega (arith, n, one, o);
-      tables = tables_more limit log states owed c (Free q key) (record s { pins = s.pins - 1 }) (owed - 1) w low inside one (m.0, m.1, m.2, m.3, omega (arith, n, one, p)) (omega (arith, n, one, o));
+      tables = tables_more limit log states owed c (Free key q) (record s { pins = s.pins - 1 }) (owed - 1) w low inside one (m.0, m.1, m.2, m.3, omega (arith, n, one, p)) (omega (arith, n, one, o));
     }
 
 pub look_stays : (owner : KeyId) (look newer : Look) (before log : List Entry) → IsPrefix before log → IsLookAt owner.0 look before → IsLookAt owner.0 newer log → newer.changes ≤ look.changes → IsLookAt owner.0 look log
@@ -149,7 +149,7 @@ written_tables limit log states owed c act key next w low at seen caller_is log_
     (subst (λ j. owed + length (spot j log).calls ≡ owed + length (done c (spot j log) act).calls) k (omega (arith, calls))))
 
 -- a call that is decided behind what was known
-pub decides_here : (c : ℕ) (old new : List Entry) (q : CallNo) (key owner : KeyId) (look : Look) (args : ArgKinds) (v : Verdict) → new ≡ old ++ entry c (Call q key look.site args v) ∷ [] → IsLookAt owner.0 look old
+pub decides_here : (c : ℕ) (old new : List Entry) (q : CallNo) (key owner : KeyId) (look : Look) (args : ArgKinds) (v : Verdict) → new ≡ old ++ entry c (Call key q look.site args v) ∷ [] → IsLookAt owner.0 look old
     → Decides c old new q key owner look args v (Ok tt)
 decides_here c old new q key owner look args v is h =
-    ([], is ∙ ap (λ w. w ++ entry c (Call q key look.site args v) ∷ []) (sym (append-nil old)), refl, subst (IsLookAt owner.0 look) (sym (append-nil old)) h)
+    ([], is ∙ ap (λ w. w ++ entry c (Call key q look.site args v) ∷ []) (sym (append-nil old)), refl, subst (IsLookAt owner.0 look) (sym (append-nil old)) h)

@@ -52,7 +52,7 @@ row_longer t names more log x key site kinds v d =
     }
 
 fits_longer : (t : Table) (names more : List Name) (c : ℕ) (log : List Entry) (a : Act) → FitsCall t names c log a → FitsCall t (names ++ more) c log a
-fits_longer t names more c log (Call q key site args v) d = (row_longer t names more log (c, q.0) key.0 site (kinds_of args) v d.0, d.1)
+fits_longer t names more c log (Call key q site args v) d = (row_longer t names more log (c, q.0) key.0 site (kinds_of args) v d.0, d.1)
 fits_longer _ _ _ _ _ _ d = d
 
 -- and so do all Calls of a list

@@ -30,7 +30,7 @@ count_but k j (h ∷ hs) = go (eqb j h.key) refl (eqb k j) refl (count_but k j h
 
 -- one act of the caller, at the key and elsewhere
 held_one : (c q k : ℕ) (s : Spot) (hs : List Stand) (a : Act) → times (c, q) s.calls ≡ count_of k hs → times (c, q) (cond (eqb k (key_of a)) (done c s a) s).calls ≡ count_of k (stand_done q hs a)
-held_one c q k s hs (Hold p key ty changes) e = go (eqb k key.0) refl (eqb q p.0) refl
+held_one c q k s hs (Hold key p ty changes) e = go (eqb k key.0) refl (eqb q p.0) refl
   where
     one : (b : Bool) → b ≡ true → (let z : ℕ = cond b 1 0 in z) ≡ 1
     one true h = refl
@@ -46,7 +46,7 @@ held_one c q k s hs (Hold p key ty changes) e = go (eqb k key.0) refl (eqb q p.0
     go true ea false eb = let f = eq-eqb c c refl in rw (f, eb) (omega (arith, e))
     go false ea true eb = let n = count_last k hs (record { key = key.0; ty = ty; changes = changes }) in let o = two (eqb k key.0) ea in omega (arith, e, n, o)
     go false ea false eb = e
-held_one c q k s hs (Free p key) e = go (eqb k key.0) refl (eqb q p.0) refl
+held_one c q k s hs (Free key p) e = go (eqb k key.0) refl (eqb q p.0) refl
   where
     go : (a : Bool) → eqb k key.0 ≡ a → (b : Bool) → eqb q p.0 ≡ b → times (c, q) (cond a (record s { calls = without (c, p.0) s.calls }) s).calls ≡ count_of k (cond b (all_but key.0 hs) hs)
     go true ea true eb = ap (λ n. times (c, q) (without (c, n) s.calls)) (sym (eqb-true q p.0 eb)) ∙ none_without (c, q) s.calls ∙ sym (count_but k key.0 hs ∙ ap (λ b. cond b 0 (count_of k hs)) ea)
@@ -62,21 +62,21 @@ held_one c q k s hs (Busy key pins) e = elim (eqb k key.0) as (λ b. times (c, q
 held_one c q k s hs (WornType key) e = elim (eqb k key.0) as (λ b. times (c, q) (cond b s s).calls ≡ count_of k hs) [ true ↦ e | false ↦ e ]
 held_one c q k s hs (Define key site) e = elim (eqb k key.0) as (λ b. times (c, q) (cond b (done c s (Define key site)) s).calls ≡ count_of k hs) [ true ↦ e | false ↦ e ]
 held_one c q k s hs (WornDef key) e = elim (eqb k key.0) as (λ b. times (c, q) (cond b s s).calls ≡ count_of k hs) [ true ↦ e | false ↦ e ]
-held_one c q k s hs (Call p key site args verdict) e = elim (eqb k key.0) as (λ b. times (c, q) (cond b s s).calls ≡ count_of k hs) [ true ↦ e | false ↦ e ]
+held_one c q k s hs (Call key p site args verdict) e = elim (eqb k key.0) as (λ b. times (c, q) (cond b s s).calls ≡ count_of k hs) [ true ↦ e | false ↦ e ]
 
 -- another caller's act
 times_apart : (c q d k : ℕ) (s : Spot) (a : Act) → eqb c d ≡ false → times (c, q) (cond (eqb k (key_of a)) (done d s a) s).calls ≡ times (c, q) s.calls
 times_apart c q d k s a ne = elim (eqb k (key_of a)) as (λ b. times (c, q) (cond b (done d s a) s).calls ≡ times (c, q) s.calls) [ true ↦ one a | false ↦ refl ]
   where
     one : (a : Act) → times (c, q) (done d s a).calls ≡ times (c, q) s.calls
-    one (Hold p key ty changes) = rw ne (omega arith)
-    one (Free p key) = times_other (c, q) (d, p.0) s.calls (ap (λ b. b && eqb q p.0) ne)
+    one (Hold key p ty changes) = rw ne (omega arith)
+    one (Free key p) = times_other (c, q) (d, p.0) s.calls (ap (λ b. b && eqb q p.0) ne)
     one (Retype key site) = refl
     one (Busy key pins) = refl
     one (WornType key) = refl
     one (Define key site) = refl
     one (WornDef key) = refl
-    one (Call p key site args verdict) = refl
+    one (Call key p site args verdict) = refl
 
 held_from : (c q k : ℕ) (s : Spot) (hs : List Stand) (xs : List Entry) → times (c, q) s.calls ≡ count_of k hs → times (c, q) (spot_from k s xs).calls ≡ count_of k (standing_from q hs (acts c xs))
 held_from c q k s hs [] e = e
@@ -97,13 +97,13 @@ standing_append q hs (a ∷ l) m = standing_append q (stand_done q hs a) l m
 
 -- acts in which the call has no part: neither a Hold nor a Free of it
 abbrev pub has_part : ℕ → Act → Bool
-has_part q (Hold p key ty changes) = eqb q p.0
-has_part q (Free p key) = eqb q p.0
+has_part q (Hold key p ty changes) = eqb q p.0
+has_part q (Free key p) = eqb q p.0
 has_part _ _ = false
 
 stand_apart : (q : ℕ) (hs : List Stand) (a : Act) → has_part q a ≡ false → stand_done q hs a ≡ hs
-stand_apart q hs (Hold p key ty changes) h = rw h refl
-stand_apart q hs (Free p key) h = rw h refl
+stand_apart q hs (Hold key p ty changes) h = rw h refl
+stand_apart q hs (Free key p) h = rw h refl
 stand_apart _ _ _ _ = refl
 
 -- a frame's Holds stand as long as its call has no part in what its caller does

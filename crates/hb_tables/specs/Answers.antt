@@ -31,5 +31,5 @@ DefAdds c old new key site defined.Worn = Adds c old new (act.WornDef key)
 -- the call is decided at a place where the look is true, or the definition was changed since the look, and a newer look is true at the end
 abbrev pub Decides : ℕ → List Entry → List Entry → CallNo → KeyId → KeyId → Look → ArgKinds → Verdict → Result (Unit {0}) Look → Type 0
 Decides c old new q key owner look args verdict (Ok _) =
-    (between : List Entry) × (new ≡ (old ++ between) ++ entry c (act.Call q key look.site args verdict) ∷ []) × (journal c between ≡ []) × IsLookAt owner.0 look (old ++ between)
+    (between : List Entry) × (new ≡ (old ++ between) ++ entry c (act.Call key q look.site args verdict) ∷ []) × (journal c between ≡ []) × IsLookAt owner.0 look (old ++ between)
 Decides c old new q key owner look args verdict (Err newer) = Learns c old new × IsLookAt owner.0 newer new × (look.changes < newer.changes)

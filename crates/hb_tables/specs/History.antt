@@ -38,25 +38,25 @@ of_caller c (y ∷ ys) = cond (c == y.0) (y ∷ of_caller c ys) (of_caller c ys)
 
 -- the key that an act is about
 abbrev pub key_of : Act → ℕ
-key_of (Hold q key ty changes) = key.0
-key_of (Free q key) = key.0
+key_of (Hold key q ty changes) = key.0
+key_of (Free key q) = key.0
 key_of (Retype key site) = key.0
 key_of (Busy key pins) = key.0
 key_of (WornType key) = key.0
 key_of (Define key site) = key.0
 key_of (WornDef key) = key.0
-key_of (Call q key site args verdict) = key.0
+key_of (Call key q site args verdict) = key.0
 
 -- a key's state after an act on it by a caller
 abbrev pub done : ℕ → Spot → Act → Spot
-done c s (Hold q key ty changes) = record s { calls = (c, q.0) ∷ s.calls }
-done c s (Free q key) = record s { calls = without (c, q.0) s.calls }
+done c s (Hold key q ty changes) = record s { calls = (c, q.0) ∷ s.calls }
+done c s (Free key q) = record s { calls = without (c, q.0) s.calls }
 done c s (Retype key site) = record s { ty = Some site; changes = s.changes + 1 }
 done c s (Define key site) = record s { body = Some site; redefs = s.redefs + 1 }
 done c s (Busy key pins) = s
 done c s (WornType key) = s
 done c s (WornDef key) = s
-done c s (Call q key site args verdict) = s
+done c s (Call key q site args verdict) = s
 
 -- the state of the key k after an entry
 abbrev pub turn : ℕ → Spot → Entry → Spot
@@ -77,14 +77,14 @@ journal c (e ∷ es) = cond (c == e.caller.0) (e ∷ journal c es) (journal c es
 
 -- the act fits the state of its key
 abbrev pub FitsAct : ℕ → ℕ → Spot → Act → Type 0
-FitsAct limit c s (Hold q key ty changes) = (ty ≡ s.ty) × (changes ≡ s.changes) × (times (c, q.0) s.calls ≡ 0) × (length (of_caller c s.calls) < HOLDS_MAX)
-FitsAct limit c s (Free q key) = times (c, q.0) s.calls ≡ 1
+FitsAct limit c s (Hold key q ty changes) = (ty ≡ s.ty) × (changes ≡ s.changes) × (times (c, q.0) s.calls ≡ 0) × (length (of_caller c s.calls) < HOLDS_MAX)
+FitsAct limit c s (Free key q) = times (c, q.0) s.calls ≡ 1
 FitsAct limit c s (Retype key site) = (length s.calls ≡ 0) × (s.changes < limit) × (site.0 < TYPES_MAX)
 FitsAct limit c s (Busy key pins) = (pins ≡ length s.calls) × (0 < pins)
 FitsAct limit c s (WornType key) = (length s.calls ≡ 0) × (s.changes ≡ limit)
 FitsAct limit c s (Define key site) = (s.redefs < limit) × (site.0 < BODIES_MAX)
 FitsAct limit c s (WornDef key) = s.redefs ≡ limit
-FitsAct limit c s (Call q key site args verdict) = Unit {0}
+FitsAct limit c s (Call key q site args verdict) = Unit {0}
 
 -- the entry fits the state of its key after those before it
 abbrev pub Fits : ℕ → List Entry → Entry → Type 0

@@ -10,5 +10,5 @@ pub record HoldsSince (c : ℕ) (q : CallNo) (key : KeyId) (log : List Entry) : 
   pub ty : Option TypeSite
   pub changes : ℕ
   pub after : List Entry
-  pub is : log ≡ before ++ entry c (Hold q key ty changes) ∷ after
+  pub is : log ≡ before ++ entry c (Hold key q ty changes) ∷ after
   pub keeps : KeepsHold q.0 key.0 (acts c after)

@@ -77,9 +77,9 @@ pub record IsDecided (t : Table) (names : List Name) (log : List Entry) (x : ℕ
 
 -- a Call is decided, and tells nothing but its arguments' kinds
 abbrev pub FitsCall : Table → List Name → ℕ → List Entry → Act → Type 0
-FitsCall t names c log (Call q key site args v) = IsDecided t names log (c, q.0) key.0 site (kinds_of args) v × IsFilled args
-FitsCall t names c log (Hold q key ty changes) = Unit {0}
-FitsCall t names c log (Free q key) = Unit {0}
+FitsCall t names c log (Call key q site args v) = IsDecided t names log (c, q.0) key.0 site (kinds_of args) v × IsFilled args
+FitsCall t names c log (Hold key q ty changes) = Unit {0}
+FitsCall t names c log (Free key q) = Unit {0}
 FitsCall t names c log (Retype key site) = Unit {0}
 FitsCall t names c log (Busy key pins) = Unit {0}
 FitsCall t names c log (WornType key) = Unit {0}

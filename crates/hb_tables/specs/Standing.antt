@@ -16,14 +16,14 @@ all_but k [] = []
 all_but k (h ∷ hs) = cond (k == h.key) (all_but k hs) (h ∷ all_but k hs)
 
 abbrev pub stand_done : ℕ → List Stand → Act → List Stand
-stand_done q hs (Hold p key ty changes) = cond (q == p.0) (hs ++ record { key = key.0; ty = ty; changes = changes } ∷ []) hs
-stand_done q hs (Free p key) = cond (q == p.0) (all_but key.0 hs) hs
+stand_done q hs (Hold key p ty changes) = cond (q == p.0) (hs ++ record { key = key.0; ty = ty; changes = changes } ∷ []) hs
+stand_done q hs (Free key p) = cond (q == p.0) (all_but key.0 hs) hs
 stand_done q hs (Retype key site) = hs
 stand_done q hs (Busy key pins) = hs
 stand_done q hs (WornType key) = hs
 stand_done q hs (Define key site) = hs
 stand_done q hs (WornDef key) = hs
-stand_done q hs (Call p key site args verdict) = hs
+stand_done q hs (Call key p site args verdict) = hs
 
 abbrev pub standing_from : ℕ → List Stand → List Act → List Stand
 standing_from q hs [] = hs

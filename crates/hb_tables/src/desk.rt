@@ -74,7 +74,7 @@ pub trait Desk {
         requires free { times ((fixed self.old).caller, q.0) (spot key.0 (front self.old)).calls ≡ 0 }
         requires few { length (of_caller (fixed self.old).caller (spot key.0 (front self.old)).calls) < HOLDS_MAX }
         requires spare { 2 ≤ spare self.old }
-        ensures entry { Adds (fixed self.old).caller (front self.old) (front self.new) (Hold q key result.ty result.changes) }
+        ensures entry { Adds (fixed self.old).caller (front self.old) (front self.new) (Hold key q result.ty result.changes) }
         ensures legal { IsLegal (fixed self.old).limit (front self.new) }
         ensures fixed { fixed self.new ≡ fixed self.old }
         ensures spare { spare self.old ≤ spare self.new + 2 };
@@ -83,7 +83,7 @@ pub trait Desk {
     fn free(&mut self, q: CallNo, key: KeyId)
         requires key { key.0 < NAMES_MAX }
         requires held { times ((fixed self.old).caller, q.0) (spot key.0 (front self.old)).calls ≡ 1 }
-        ensures entry { Adds (fixed self.old).caller (front self.old) (front self.new) (Free q key) }
+        ensures entry { Adds (fixed self.old).caller (front self.old) (front self.new) (Free key q) }
         ensures legal { IsLegal (fixed self.old).limit (front self.new) }
         ensures fixed { fixed self.new ≡ fixed self.old }
         ensures spare { spare self.old ≤ spare self.new };

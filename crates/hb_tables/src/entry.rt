@@ -46,20 +46,20 @@ pub struct ArgKinds {
     pub kinds: [Ty; PARAMS_MAX],
 }
 
-/// What is done at one step. A key is one of the run's names of methods.
+/// What is done at one step. A key is one of the run's names of methods, and comes first, so that an entry is small.
 #[derive(Clone, Copy)]
 pub enum Act {
     /// The call `q` begins to hold the key, and finds this type and this number of changes.
     Hold {
-        q: CallNo,
         key: KeyId,
+        q: CallNo,
         ty: Option<TypeSite>,
         changes: u32,
     },
     /// The call `q` holds the key no longer.
     Free {
-        q: CallNo,
         key: KeyId,
+        q: CallNo,
     },
     /// The key gets the type of the site.
     Retype {
@@ -86,8 +86,8 @@ pub enum Act {
     },
     /// The call `q` of the key, with its definition and with arguments of these kinds, is decided.
     Call {
-        q: CallNo,
         key: KeyId,
+        q: CallNo,
         site: Option<BodySite>,
         args: ArgKinds,
         verdict: Verdict,
@@ -100,3 +100,8 @@ pub struct Entry {
     pub caller: CallerId,
     pub act: Act,
 }
+
+/// How many bytes an entry may take in memory: docs/SPEED.md.
+const ENTRY_BYTES: usize = 32;
+
+const _: () = prove!(size_of::<Entry>() <= ENTRY_BYTES);

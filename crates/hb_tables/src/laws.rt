@@ -49,10 +49,10 @@ pub fn calls_hold_until_they_free()
 /// What a hold found stays so while its call does not give the key back.
 pub fn holds_keep_types()
     ensures { (limit c : ℕ) (before rest : List Entry) (q : CallNo) (key : KeyId) (ty : Option TypeSite) (n : ℕ)
-        → IsLegal limit (before ++ entry c (Hold q key ty n) ∷ rest) → KeepsHold q.0 key.0 (acts c rest)
-        → ((spot key.0 (before ++ entry c (Hold q key ty n) ∷ rest)).ty ≡ ty)
-        × ((spot key.0 (before ++ entry c (Hold q key ty n) ∷ rest)).changes ≡ n)
-        × (1 ≤ times (c, q.0) (spot key.0 (before ++ entry c (Hold q key ty n) ∷ rest)).calls) }
+        → IsLegal limit (before ++ entry c (Hold key q ty n) ∷ rest) → KeepsHold q.0 key.0 (acts c rest)
+        → ((spot key.0 (before ++ entry c (Hold key q ty n) ∷ rest)).ty ≡ ty)
+        × ((spot key.0 (before ++ entry c (Hold key q ty n) ∷ rest)).changes ≡ n)
+        × (1 ≤ times (c, q.0) (spot key.0 (before ++ entry c (Hold key q ty n) ∷ rest)).calls) }
 {}
 
 /// While a frame is live, no type that it uses is changed.

@@ -165,7 +165,7 @@ impl PlainTables {
         requires free { times (self.old.caller, q.0) (spot key.0 self.old.log).calls ≡ 0 }
         requires few { length (of_caller self.old.caller (spot key.0 self.old.log).calls) < HOLDS_MAX }
         requires room { 2 ≤ self.old.spare }
-        ensures adds { Adds self.old.caller self.old.log self.new.log (Hold q key result.ty result.changes) }
+        ensures adds { Adds self.old.caller self.old.log self.new.log (Hold key q result.ty result.changes) }
         ensures door { (self.new.caller ≡ self.old.caller) × (self.new.opened ≡ self.old.opened) }
         ensures limit { self.new.limit ≡ self.old.limit }
         ensures spare { self.old.spare ≤ self.new.spare + 2 }
@@ -188,8 +188,8 @@ impl PlainTables {
         history.push_reserved(Entry {
             caller: *caller,
             act: Act::Hold {
-                q,
                 key,
+                q,
                 ty: held.ty,
                 changes: held.changes,
             },
@@ -200,7 +200,7 @@ impl PlainTables {
     pub(crate) fn free(&mut self, q: CallNo, key: KeyId)
         requires key { key.0 < NAMES_MAX }
         requires held { times (self.old.caller, q.0) (spot key.0 self.old.log).calls ≡ 1 }
-        ensures adds { Adds self.old.caller self.old.log self.new.log (Free q key) }
+        ensures adds { Adds self.old.caller self.old.log self.new.log (Free key q) }
         ensures door { (self.new.caller ≡ self.old.caller) × (self.new.opened ≡ self.old.opened) }
         ensures limit { self.new.limit ≡ self.old.limit }
         ensures spare { self.old.spare ≤ self.new.spare }
@@ -217,7 +217,7 @@ impl PlainTables {
         *owed -= 1;
         history.push_reserved(Entry {
             caller: *caller,
-            act: Act::Free { q, key },
+            act: Act::Free { key, q },
         });
     }
 
@@ -317,8 +317,8 @@ impl PlainTables {
         }
         let state = self.state(key);
         let act = Act::Call {
-            q,
             key,
+            q,
             site: look.site,
             args,
             verdict,

@@ -34,7 +34,7 @@ fn push_classes(sheet: &mut Sheet, prog: &Program) -> Result<(), AllocError>
 {
     for class in 0..prog.classes() {
         sheet.mark(TokenKind::KwClass)?;
-        sheet.class_name(prog.class_name(ClassId(class as u16)))?;
+        sheet.class_name(prog.class_name(ClassId(class as u8)))?;
         sheet.line_end()?;
     }
     Ok(())

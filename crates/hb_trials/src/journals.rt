@@ -49,14 +49,14 @@ type Shape = (char, u32, u16);
 fn shape(rt: &impl Abort, entry: &Entry) -> Shape {
     assert!(rt; entry.caller == CALLER);
     match entry.act {
-        Act::Hold { q, key, .. } => ('h', q.0, key.0),
-        Act::Free { q, key } => ('f', q.0, key.0),
+        Act::Hold { key, q, .. } => ('h', q.0, key.0),
+        Act::Free { key, q } => ('f', q.0, key.0),
         Act::Retype { key, .. } => ('t', 0, key.0),
         Act::Busy { key, .. } => ('b', 0, key.0),
         Act::WornType { key } => ('w', 0, key.0),
         Act::Define { key, .. } => ('d', 0, key.0),
         Act::WornDef { key } => ('v', 0, key.0),
-        Act::Call { q, key, .. } => ('c', q.0, key.0),
+        Act::Call { key, q, .. } => ('c', q.0, key.0),
     }
 }
 

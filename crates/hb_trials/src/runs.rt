@@ -1,6 +1,7 @@
 //! Programs of one script, and their reports.
 
 use crate::texts::read;
+use hb_call::Share;
 use hb_eval::script_run::ScriptRun;
 use hb_eval::stop::{Outcome, Stop};
 use hb_eval::value::Value;
@@ -22,7 +23,8 @@ fn reported(
 ) -> Result<String, Fail> {
     let program = read(rt, alloc, text.as_bytes());
     assert!(rt; 1 <= versions && versions <= VERSIONS_MAX);
-    let runs = run_ordered(alloc, &program, &[], steps, versions)?.runs;
+    let mut share = Share::Off;
+    let runs = run_ordered(alloc, &program, &[], steps, versions, &mut share)?.runs;
     let report = report(alloc, &program, &runs)?;
     Ok(String::from_utf8(report)?)
 }
@@ -428,5 +430,36 @@ fn each_run_has_its_section(rt: HostRuntime) -> Result<(), Fail> {
         "setup\ndone\ncalls 7 own 2 shared 0 fresh 1\nscript b\nstop Steps 1:7\ncalls 7 own 0 shared 3 fresh 1\n";
     assert_eq!(rt; report.as_slice(), expected.as_bytes());
     assert!(rt; all_done(&runs[..1]) && !all_done(&runs));
+    Ok(())
+}
+
+/// A definition that two scripts check, each at its second turn, and one that the second script alone checks.
+const CHECKED: &str =
+    "class A\nclass B\nsetup\ndef A.f() 1 end\ntype A.f : () -> Int\ndef B.g() 2 end\ntype B.g : () -> Int\nend\nscript a\nA.new.f\nend\nscript b\nB.new.g\nA.new.f\nend\n";
+
+// The classes of the derivations that the scripts' checks give by this order.
+fn classes_by(rt: &impl Abort, alloc: Global, order: &[CallerId]) -> Result<Vec<u8>, Fail> {
+    let program = read(rt, alloc, CHECKED.as_bytes());
+    let mut share = Share::Collect(Vec::new(alloc));
+    run_ordered(alloc, &program, order, STEPS, 1, &mut share)?;
+    let mut classes = Vec::new(alloc);
+    if let Share::Collect(made) = &share {
+        for derivation in made {
+            classes.push(derivation.class.0)?;
+        }
+    }
+    Ok(classes)
+}
+
+#[test]
+fn checks_are_collected_in_the_order_of_the_history(rt: HostRuntime) -> Result<(), Fail> {
+    let first = classes_by(&rt, rt.alloc(), &[])?;
+    assert_eq!(rt; first.as_slice(), [0, 1, 0].as_slice());
+    let second = classes_by(
+        &rt,
+        rt.alloc(),
+        &[CallerId(2), CallerId(2), CallerId(2), CallerId(1)],
+    )?;
+    assert_eq!(rt; second.as_slice(), [1, 0, 0].as_slice());
     Ok(())
 }

@@ -25,10 +25,9 @@ fn a_copy_has_all_of_it(rt: HostRuntime) -> Result<(), Fail> {
         steps: vec![in rt.alloc(); step(0, class), step(1, Ty::Int), step(2, Ty::Any)]?,
     };
     let copy = derivation.copy(rt.alloc())?;
-    let numbers = [(copy.class.0, 1), (copy.body.0, 2), (copy.declared.0, 3)];
-    for (number, expected) in numbers {
-        assert_eq!(rt; number, expected);
-    }
+    assert_eq!(rt; copy.class, derivation.class);
+    assert_eq!(rt; copy.body, derivation.body);
+    assert_eq!(rt; copy.declared, derivation.declared);
     assert_eq!(rt; copy.uses, derivation.uses);
     assert_eq!(rt; copy.steps, derivation.steps);
     Ok(())

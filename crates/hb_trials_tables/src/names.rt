@@ -51,7 +51,7 @@ fn the_last_key_is_given_and_then_no_new_one(rt: HostRuntime) {
 fn key_of<N: Names>(
     names: &mut N,
     alloc: Global,
-    class: u16,
+    class: u8,
     number: u16,
 ) -> Result<KeyId, NameFail> {
     names.key(alloc, ClassId(class), &number.to_be_bytes())

@@ -7,3 +7,4 @@ mod KnownLemmas
 pub mod RunLemmas
 mod TagLemmas
 mod ThroughLemmas
+mod CollectingLemmas

@@ -98,10 +98,8 @@ moved_players t steps c (suc at) u names longer old new us (p ∷ ps) q mine bel
     )
 
 pub set_length : (ps : List Player) (at : ℕ) (q : Player) → length (slice_set ps at q) ≡ length ps
-set_length [] zero q = refl
-set_length [] (suc at) q = refl
-set_length (p ∷ ps) zero q = refl
 set_length (p ∷ ps) (suc at) q = let rest = set_length ps at q in omega (arith, rest)
+set_length _ _ _ = refl
 
 last_or : (ws xs after : List Taken) (u x : Taken) → ws ++ u ∷ [] ≡ xs ++ x ∷ after → ((ws ≡ xs) × (u ≡ x)) ⊎ ((a : List Taken) × (ws ≡ xs ++ x ∷ a))
 last_or [] [] after u x e = inl (refl, cc e)
@@ -134,12 +132,9 @@ set_same (p ∷ ps) zero q low = refl
 set_same (p ∷ ps) (suc at) q low = set_same ps at q (omega (arith, low))
 
 set_other : (ps : List Player) (at i : ℕ) (q : Player) → i ≢ at → slice_get (slice_set ps at q) i ≡ slice_get ps i
-set_other [] zero i q apart = refl
-set_other [] (suc at) i q apart = refl
 set_other (p ∷ ps) zero zero q apart = absurd (apart refl)
-set_other (p ∷ ps) zero (suc i) q apart = refl
-set_other (p ∷ ps) (suc at) zero q apart = refl
 set_other (p ∷ ps) (suc at) (suc i) q apart = set_other ps at i q (λ same. apart (ap suc same))
+set_other _ _ _ _ _ = refl
 
 -- Where a turn comes, it is its caller's last one, and what was so for the others' last ones stays so.
 stood_more : (t : Table) (limit steps first at : ℕ) (start : List Entry) (us : List Taken) (w : Taken) (names longer : List Name) (new : List Entry) (ps : List Player) (q : Player)
@@ -187,9 +182,9 @@ stood_more t limit steps first at start us w names longer new ps q mine below mo
 pub took_turn : (t : Table) (limit first at : ℕ) (names longer : List Name) (old new : List Entry) (ps : List Player) (p q : Player) → slice_get ps at ≡ Some p → at < length ps → p.over ≡ false
     → Took t (first + at) names longer old new p.machine q.machine → IsUnderWay t limit longer new → IsAt q.over q.machine
     → ((turns : ℕ) → IsNumbered p.over p.machine.state.begun turns → IsNumbered q.over q.machine.state.begun (turns + 1))
-    → (q.over ≡ false → q.machine.state.fuel < p.machine.state.fuel) → IsPrefix names longer
+    → IsPrefix names longer
     → TookTurn t limit first at names longer old new ps (slice_set ps at q)
-took_turn t limit first at names longer old new ps p q is below goes_on took under_way here numbered fuel more = record {
+took_turn t limit first at names longer old new ps p q is below goes_on took under_way here numbered more = record {
   turn = u;
   mine = refl;
   named = more;
@@ -199,7 +194,6 @@ took_turn t limit first at names longer old new ps p q is below goes_on took und
   goes_on = goes_on;
   moved = refl;
   numbered = numbered;
-  falls = fuel;
   played = λ steps start us had.
       let x = player_at t steps first names old us ps at p had.players is in
       let done : acts_by (first + at) (us ++ u ∷ []) ≡ acts_by (first + at) us ++ tagged q.machine.state.begun took.more =

@@ -96,9 +96,8 @@ pub through_turn : (t : Table) (door mid latest : Fixed) (names known more : Lis
     → ((block steps : ℕ) (done : List (ℕ × Act)) → StandsFor t known block steps done q.machine
     → (made : List Act) × (acts mid.caller last ≡ acts mid.caller now ++ made) × StandsFor t more block steps (done ++ tagged r.machine.state.begun made) r.machine)
     → q.over ≡ false → IsAt r.over r.machine → ((turns : ℕ) → IsNumbered q.over q.machine.state.begun turns → IsNumbered r.over r.machine.state.begun (turns + 1))
-    → (r.over ≡ false → r.machine.state.fuel < q.machine.state.fuel)
     → AreOwn door.caller (drop (length log) last) → GoesAmong t door.limit door.caller names more log last p r
-through_turn t door mid latest names known more log now last p q r first before stays whole fine holding checks grown caller kept turn goes end numbered fuel own =
+through_turn t door mid latest names known more log now last p q r first before stays whole fine holding checks grown caller kept turn goes end numbered own =
     λ at ps mine there below many over steps start us had.
     let parts = own_parts door.caller log now last first.kept stays.kept own in
     let g = before parts.0 at ps mine there below many over steps start us had in
@@ -112,7 +111,7 @@ through_turn t door mid latest names known more log now last p q r first before 
     let took = took_door t (1 + at) known more now last q.machine r.machine mid.caller now same refl came fine holding checks caller kept turn in
     let under_way = under_way_door t door.limit (1 + at) known more now last x.plays.block q.machine.state.cache r.machine.state.cache mid.caller now same refl m.1.under_way
     (whole.legal had.under_way.legal) came stays.named stays.few stays.differ grown x.plays.own checks x.plays.runs (λ none. absurd (omega (arith, none))) in
-    let u = took_turn t door.limit 1 at known more now last here q r stands (omega (arith, wide, below)) goes took under_way end numbered fuel stays.named in
+    let u = took_turn t door.limit 1 at known more now last here q r stands (omega (arith, wide, below)) goes took under_way end numbered stays.named in
     subst (λ (l : List Player). GoOn t door.limit names more log last ps l) (set_again at ps q r)
     (goes_on t door.limit names known more log now last ps here (slice_set here at r) g
     (goes_turn t door.limit at known more now last here (slice_set here at r) (omega (arith, many, wide)) (omega (arith, wide, below)) (over_stays at ps q over) u))

@@ -70,7 +70,6 @@ pub record TookTurn (t : Table) (limit first at : ℕ) (names longer : List Name
   pub goes_on : before.over ≡ false
   pub moved : now ≡ slice_set was at player
   pub numbered : (turns : ℕ) → IsNumbered before.over before.machine.state.begun turns → IsNumbered player.over player.machine.state.begun (turns + 1)
-  pub falls : player.over ≡ false → player.machine.state.fuel < before.machine.state.fuel
   pub played : (steps : ℕ) (start : List Entry) (us : List Taken) → HavePlayed t limit steps first start us names old was → HavePlayed t limit steps first start (us ++ turn ∷ []) longer new now
 
 -- ── the order ──

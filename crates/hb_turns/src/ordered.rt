@@ -3,11 +3,13 @@
 ghost use Rattle.std.specs.Prelude.{◌≡◌, ◌+◌, ◌<◌, ◌≤◌, ℕ, List, [], length, map, slice_get, Some, false, OnOk};
 ghost use mathlib.Core.List.{IsPrefix};
 ghost use Rattle.hb_tables.specs.declared.entry.Entry.{Entry};
+ghost use Rattle.hb_turns.specs.Collecting.{AreCollected};
 ghost use Rattle.hb_turns.specs.Playing.{Taken};
 ghost use Rattle.hb_turns.specs.Players.{AreOver, Follows, GoOn, GoesOne, HaveGone, HavePlayed, TookTurn};
 
 use crate::player::{Player, play};
 use crate::playing_out::play_to_end;
+use hb_call::Share;
 use hb_names::PlainNames;
 use hb_tables::plain::PlainTables;
 use hb_tree::program::Program;
@@ -24,17 +26,19 @@ pub fn turn_at(
     at: usize,
     tables: &mut PlainTables,
     names: &mut PlainNames,
+    share: &mut Share,
 ) -> Result<(), AllocError>
     requires there { at < length players.old.items }
     requires goes_on { (p : Player) → slice_get players.old.items at ≡ Some p → p.over ≡ false }
     requires few { first + length players.old.items ≤ 256 }
     requires played { (steps : ℕ) × (start : List Entry) × (us : List Taken) × HavePlayed prog.now tables.old.limit steps first start us names.old tables.old.log players.old.items }
     ensures took { OnOk result (TookTurn prog.now tables.old.limit first at names.old names.new tables.old.log tables.new.log players.old.items players.new.items) }
+    ensures collects { OnOk result (AreCollected prog.now names.old names.new tables.old.log tables.new.log share.old share.new) }
     ensures limit { OnOk result (tables.new.limit ≡ tables.old.limit) }
 {
     let caller = CallerId(first + at as u8);
     let player = &mut players[at];
-    play(alloc, prog, caller, player, tables, names)?;
+    play(alloc, prog, caller, player, tables, names, share)?;
     Ok(())
 }
 
@@ -47,15 +51,17 @@ pub fn play_by_order(
     players: &mut Vec<Player>,
     tables: &mut PlainTables,
     names: &mut PlainNames,
+    share: &mut Share,
 ) -> Result<(), AllocError>
     requires few { length players.old.items ≤ 255 }
     requires played { (steps : ℕ) × (start : List Entry) × HavePlayed prog.now tables.old.limit steps 1 start [] names.old tables.old.log players.old.items }
     ensures gone { OnOk result (HaveGone prog.now tables.old.limit (map (λ c. c.0) order.now) [] names.old names.new tables.old.log tables.new.log players.old.items players.new.items) }
+    ensures collects { OnOk result (AreCollected prog.now names.old names.new tables.old.log tables.new.log share.old share.new) }
     ensures limit { OnOk result (tables.new.limit ≡ tables.old.limit) }
 {
     let mut next = 0;
     while next < order.len() {
-        follow(alloc, prog, order[next], players, tables, names)?;
+        follow(alloc, prog, order[next], players, tables, names, share)?;
         next += 1;
     }
     Ok(())
@@ -69,16 +75,26 @@ fn follow(
     players: &mut Vec<Player>,
     tables: &mut PlainTables,
     names: &mut PlainNames,
+    share: &mut Share,
 ) -> Result<(), AllocError>
     requires few { length players.old.items ≤ 255 }
     requires played { (steps : ℕ) × (start : List Entry) × (us : List Taken) × HavePlayed prog.now tables.old.limit steps 1 start us names.old tables.old.log players.old.items }
     ensures follows { OnOk result (Follows prog.now tables.old.limit script.0 names.old names.new tables.old.log tables.new.log players.old.items players.new.items) }
+    ensures collects { OnOk result (AreCollected prog.now names.old names.new tables.old.log tables.new.log share.old share.new) }
     ensures limit { OnOk result (tables.new.limit ≡ tables.old.limit) }
 {
     if script.0 == 0 || script.0 as usize > players.len() {
         return Ok(());
     }
-    turn_unless_over(alloc, prog, players, script.0 as usize - 1, tables, names)?;
+    turn_unless_over(
+        alloc,
+        prog,
+        players,
+        script.0 as usize - 1,
+        tables,
+        names,
+        share,
+    )?;
     Ok(())
 }
 
@@ -90,17 +106,19 @@ fn turn_unless_over(
     at: usize,
     tables: &mut PlainTables,
     names: &mut PlainNames,
+    share: &mut Share,
 ) -> Result<(), AllocError>
     requires there { at < length players.old.items }
     requires few { length players.old.items ≤ 255 }
     requires played { (steps : ℕ) × (start : List Entry) × (us : List Taken) × HavePlayed prog.now tables.old.limit steps 1 start us names.old tables.old.log players.old.items }
     ensures goes { OnOk result (GoesOne prog.now tables.old.limit at names.old names.new tables.old.log tables.new.log players.old.items players.new.items) }
+    ensures collects { OnOk result (AreCollected prog.now names.old names.new tables.old.log tables.new.log share.old share.new) }
     ensures limit { OnOk result (tables.new.limit ≡ tables.old.limit) }
 {
     if players[at].over {
         return Ok(());
     }
-    turn_at(alloc, prog, 1, players, at, tables, names)?;
+    turn_at(alloc, prog, 1, players, at, tables, names, share)?;
     Ok(())
 }
 
@@ -111,17 +129,19 @@ pub fn play_out(
     players: &mut Vec<Player>,
     tables: &mut PlainTables,
     names: &mut PlainNames,
+    share: &mut Share,
 ) -> Result<(), AllocError>
     requires few { length players.old.items ≤ 255 }
     requires many { length prog.now.scripts ≡ length players.old.items }
     requires played { (steps : ℕ) × (start : List Entry) × (us : List Taken) × HavePlayed prog.now tables.old.limit steps 1 start us names.old tables.old.log players.old.items }
     ensures over { OnOk result (AreOver (length players.new.items) players.new.items) }
     ensures gone { OnOk result (GoOn prog.now tables.old.limit names.old names.new tables.old.log tables.new.log players.old.items players.new.items) }
+    ensures collects { OnOk result (AreCollected prog.now names.old names.new tables.old.log tables.new.log share.old share.new) }
     ensures limit { OnOk result (tables.new.limit ≡ tables.old.limit) }
 {
     let mut at = 0;
     while at < players.len() {
-        play_out_at(alloc, prog, players, at, tables, names)?;
+        play_out_at(alloc, prog, players, at, tables, names, share)?;
         at += 1;
     }
     Ok(())
@@ -135,6 +155,7 @@ fn play_out_at(
     at: usize,
     tables: &mut PlainTables,
     names: &mut PlainNames,
+    share: &mut Share,
 ) -> Result<(), AllocError>
     requires there { at < length players.old.items }
     requires few { length players.old.items ≤ 255 }
@@ -143,10 +164,11 @@ fn play_out_at(
     requires over { AreOver at players.old.items }
     ensures over { OnOk result (AreOver (at + 1) players.new.items) }
     ensures gone { OnOk result (GoOn prog.now tables.old.limit names.old names.new tables.old.log tables.new.log players.old.items players.new.items) }
+    ensures collects { OnOk result (AreCollected prog.now names.old names.new tables.old.log tables.new.log share.old share.new) }
     ensures limit { OnOk result (tables.new.limit ≡ tables.old.limit) }
 {
     let caller = CallerId(1 + at as u8);
     let player = &mut players[at];
-    play_to_end(alloc, prog, caller, player, tables, names)?;
+    play_to_end(alloc, prog, caller, player, tables, names, share)?;
     Ok(())
 }

@@ -5,9 +5,11 @@ ghost use mathlib.Core.List.{IsPrefix};
 ghost use Rattle.hb_tables.specs.declared.entry.Act.{Act};
 ghost use Rattle.hb_tables.specs.Plain.{AreOwn};
 ghost use Rattle.hb_eval.specs.Machines.{HasEnded, IsGoing};
+ghost use Rattle.hb_turns.specs.Collecting.{AreCollected};
 ghost use Rattle.hb_turns.specs.Playing.{IsAt, IsNumbered, IsUnderWay, Plays, Took};
 
 use crate::turns::take_turn;
+use hb_call::Share;
 use hb_eval::machine::{Machine, Turn};
 use hb_names::PlainNames;
 use hb_tables::plain::PlainTables;
@@ -31,6 +33,7 @@ pub fn play(
     player: &mut Player,
     tables: &mut PlainTables,
     names: &mut PlainNames,
+    share: &mut Share,
 ) -> Result<(), AllocError>
     requires plays { (steps : ℕ) × (done : List (ℕ × Act)) × Plays prog.now steps caller.0 names.old tables.old.log done player.old.machine }
     requires at { IsAt player.old.over player.old.machine }
@@ -41,11 +44,19 @@ pub fn play(
     ensures under_way { OnOk result (IsUnderWay prog.now tables.old.limit names.new tables.new.log) }
     ensures at { OnOk result (IsAt player.new.over player.new.machine) }
     ensures numbered { OnOk result ((turns : ℕ) → IsNumbered player.old.over player.old.machine.state.begun turns → IsNumbered player.new.over player.new.machine.state.begun (turns + 1)) }
-    ensures fuel { OnOk result (player.new.over ≡ false → player.new.machine.state.fuel < player.old.machine.state.fuel) }
     ensures named { OnOk result (IsPrefix names.old names.new) }
+    ensures collects { OnOk result (AreCollected prog.now names.old names.new tables.old.log tables.new.log share.old share.new) }
     ensures limit { OnOk result (tables.new.limit ≡ tables.old.limit) }
 {
-    match take_turn(alloc, prog, caller, &mut player.machine, tables, names)? {
+    match take_turn(
+        alloc,
+        prog,
+        caller,
+        &mut player.machine,
+        tables,
+        names,
+        share,
+    )? {
         Turn::More => {}
         Turn::Ended => player.over = true,
     }

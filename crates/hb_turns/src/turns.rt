@@ -5,6 +5,7 @@ ghost use mathlib.Core.List.{IsPrefix};
 ghost use Rattle.hb_tables.specs.declared.entry.Act.{Act};
 ghost use Rattle.hb_tables.specs.Plain.{AreOwn};
 ghost use Rattle.hb_eval.specs.Machines.{HasBegun, HasEnded, IsGoing, Turns};
+ghost use Rattle.hb_turns.specs.Collecting.{AreCollected};
 ghost use Rattle.hb_turns.specs.Playing.{Plays, IsUnderWay, Took};
 
 use hb_call::Share;
@@ -24,6 +25,7 @@ pub fn take_turn(
     machine: &mut Machine,
     tables: &mut PlainTables,
     names: &mut PlainNames,
+    share: &mut Share,
 ) -> Result<Turn, AllocError>
     requires plays { (steps : ℕ) × (done : List (ℕ × Act)) × Plays prog.now steps caller.0 names.old tables.old.log done machine.old }
     requires going { IsGoing machine.old }
@@ -34,12 +36,11 @@ pub fn take_turn(
     ensures turn { IfOk result (λ turn. Turns turn machine.old machine.new) }
     ensures begun { IfOk result (λ turn. HasBegun turn machine.old machine.new) }
     ensures named { OnOk result (IsPrefix names.old names.new) }
+    ensures collects { OnOk result (AreCollected prog.now names.old names.new tables.old.log tables.new.log share.old share.new) }
     ensures limit { OnOk result (tables.new.limit ≡ tables.old.limit) }
 {
-    // With turns nothing is shared.
-    let mut share = Share::Off;
     let mut desk = tables.desk(caller);
-    let turn = machine.advance_unnoted(alloc, prog, &mut desk, names, &mut share)?;
+    let turn = machine.advance_unnoted(alloc, prog, &mut desk, names, share)?;
     // All entries that came are the caller's own.
     tables.history();
     Ok(turn)

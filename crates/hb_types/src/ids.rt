@@ -6,7 +6,7 @@ pub struct KeyId(pub u16);
 
 /// A class of a program, in the order of declaration.
 #[derive(Clone, Copy, Debug, PartialEq, Eq, Hash, PartialOrd, Ord)]
-pub struct ClassId(pub u16);
+pub struct ClassId(pub u8);
 
 /// One of the different names of a program.
 #[derive(Clone, Copy, Debug, Default, PartialEq, Eq, Hash, PartialOrd, Ord)]

@@ -1,15 +1,12 @@
 //! Runs a program's text from standard input, and writes the report to standard output.
 #![tactic(auto)]
 
-mod due;
-mod faults;
-mod top;
-
 use hb_io::{RealSink, RealSource};
+use hb_threads::OpenGate;
+use hb_top::hbird;
 use std::io::ErrorKind;
 use std::process::ExitCode;
 use std::rt::Env;
-use top::hbird;
 
 const NO_MEMORY: u8 = 3;
 
@@ -34,7 +31,14 @@ fn main(rt: HostRuntime) -> ExitCode {
         Ok(texts) => {
             let mut source = RealSource::new(rt.stdin());
             let mut sink = RealSink::new(rt.stdout());
-            hbird(rt.alloc(), texts.as_slice(), &mut source, &mut sink)
+            hbird(
+                &rt,
+                rt.alloc(),
+                texts.as_slice(),
+                &mut source,
+                &mut sink,
+                &OpenGate,
+            )
         }
         Err(_) => NO_MEMORY,
     };

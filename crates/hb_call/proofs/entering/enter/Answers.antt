@@ -68,7 +68,7 @@ pub finish-requires : goal.finish-requires
 finish-requires g c =
     let door = g.D.Desk.fixed c.args.desk.now in let old = g.D.Desk.front c.args.desk.now in let mid = g.D.Desk.front c.hold-own.new.self in let look = g.D.Desk.front c.look-look.new.self in
     let key = c.in_ok-key.key in let own = c.hold-own.result in let known = g.N.Names.known c.key.new.self in let asked = g.N.Names.asked c.key.new.self in
-    let adds : Adds door.caller old mid (Hold c.args.q key own.ty own.changes) = rw (c.reserve.ensures.fixed, c.reserve.ensures.front) at c.hold-own.ensures.entry in
+    let adds : Adds door.caller old mid (Hold key c.args.q own.ty own.changes) = rw (c.reserve.ensures.fixed, c.reserve.ensures.front) at c.hold-own.ensures.entry in
     let legal : IsLegal door.limit mid = rw (c.reserve.ensures.fixed) at c.hold-own.ensures.legal in
     let seen = rw (c.hold-own.ensures.fixed, c.reserve.ensures.fixed) at c.look-look.ensures.seen in
     let later : IsLegal door.limit look = rw (c.hold-own.ensures.fixed, c.reserve.ensures.fixed) at c.look-look.ensures.legal in
@@ -106,7 +106,7 @@ returns-in_err-ended-clause-entered g c =
     let names : c.finish.new.self.names.now ≡ c.names-1.given.0 = search rules in
     let door = g.D.Desk.fixed c.args.desk.now in let old = g.D.Desk.front c.args.desk.now in let mid = g.D.Desk.front c.hold-own.new.self in let look = g.D.Desk.front c.look-look.new.self in
     let key = c.in_ok-key.key in let own = c.hold-own.result in let known = g.N.Names.known c.key.new.self in let asked = g.N.Names.asked c.key.new.self in
-    let adds : Adds door.caller old mid (Hold c.args.q key own.ty own.changes) = rw (c.reserve.ensures.fixed, c.reserve.ensures.front) at c.hold-own.ensures.entry in
+    let adds : Adds door.caller old mid (Hold key c.args.q own.ty own.changes) = rw (c.reserve.ensures.fixed, c.reserve.ensures.front) at c.hold-own.ensures.entry in
     let legal : IsLegal door.limit mid = rw (c.reserve.ensures.fixed) at c.hold-own.ensures.legal in
     let seen = rw (c.hold-own.ensures.fixed, c.reserve.ensures.fixed) at c.look-look.ensures.seen in
     let later : IsLegal door.limit look = rw (c.hold-own.ensures.fixed, c.reserve.ensures.fixed) at c.look-look.ensures.legal in
@@ -127,7 +127,7 @@ returns-in_err-ended-clause-grown g c told =
     let names : c.finish.new.self.names.now ≡ c.names-1.given.0 = search rules in
     let door = g.D.Desk.fixed c.args.desk.now in let old = g.D.Desk.front c.args.desk.now in let mid = g.D.Desk.front c.hold-own.new.self in let look = g.D.Desk.front c.look-look.new.self in
     let key = c.in_ok-key.key in let own = c.hold-own.result in let known = g.N.Names.known c.key.new.self in let asked = g.N.Names.asked c.key.new.self in
-    let adds : Adds door.caller old mid (Hold c.args.q key own.ty own.changes) = rw (c.reserve.ensures.fixed, c.reserve.ensures.front) at c.hold-own.ensures.entry in
+    let adds : Adds door.caller old mid (Hold key c.args.q own.ty own.changes) = rw (c.reserve.ensures.fixed, c.reserve.ensures.front) at c.hold-own.ensures.entry in
     let legal : IsLegal door.limit mid = rw (c.reserve.ensures.fixed) at c.hold-own.ensures.legal in
     let seen = rw (c.hold-own.ensures.fixed, c.reserve.ensures.fixed) at c.look-look.ensures.seen in
     let later : IsLegal door.limit look = rw (c.hold-own.ensures.fixed, c.reserve.ensures.fixed) at c.look-look.ensures.legal in
@@ -149,7 +149,7 @@ returns-in_err-ended-clause-cache g c =
     let names : c.finish.new.self.names.now ≡ c.names-1.given.0 = search rules in
     let door = g.D.Desk.fixed c.args.desk.now in let old = g.D.Desk.front c.args.desk.now in let mid = g.D.Desk.front c.hold-own.new.self in let look = g.D.Desk.front c.look-look.new.self in
     let key = c.in_ok-key.key in let own = c.hold-own.result in let known = g.N.Names.known c.key.new.self in let asked = g.N.Names.asked c.key.new.self in
-    let adds : Adds door.caller old mid (Hold c.args.q key own.ty own.changes) = rw (c.reserve.ensures.fixed, c.reserve.ensures.front) at c.hold-own.ensures.entry in
+    let adds : Adds door.caller old mid (Hold key c.args.q own.ty own.changes) = rw (c.reserve.ensures.fixed, c.reserve.ensures.front) at c.hold-own.ensures.entry in
     let legal : IsLegal door.limit mid = rw (c.reserve.ensures.fixed) at c.hold-own.ensures.legal in
     let seen = rw (c.hold-own.ensures.fixed, c.reserve.ensures.fixed) at c.look-look.ensures.seen in
     let later : IsLegal door.limit look = rw (c.hold-own.ensures.fixed, c.reserve.ensures.fixed) at c.look-look.ensures.legal in
@@ -170,7 +170,7 @@ returns-in_err-ended-clause-own g c told =
     let names : c.finish.new.self.names.now ≡ c.names-1.given.0 = search rules in
     let door = g.D.Desk.fixed c.args.desk.now in let old = g.D.Desk.front c.args.desk.now in let mid = g.D.Desk.front c.hold-own.new.self in let look = g.D.Desk.front c.look-look.new.self in
     let key = c.in_ok-key.key in let own = c.hold-own.result in let known = g.N.Names.known c.key.new.self in let asked = g.N.Names.asked c.key.new.self in
-    let adds : Adds door.caller old mid (Hold c.args.q key own.ty own.changes) = rw (c.reserve.ensures.fixed, c.reserve.ensures.front) at c.hold-own.ensures.entry in
+    let adds : Adds door.caller old mid (Hold key c.args.q own.ty own.changes) = rw (c.reserve.ensures.fixed, c.reserve.ensures.front) at c.hold-own.ensures.entry in
     let legal : IsLegal door.limit mid = rw (c.reserve.ensures.fixed) at c.hold-own.ensures.legal in
     let seen = rw (c.hold-own.ensures.fixed, c.reserve.ensures.fixed) at c.look-look.ensures.seen in
     let later : IsLegal door.limit look = rw (c.hold-own.ensures.fixed, c.reserve.ensures.fixed) at c.look-look.ensures.legal in
@@ -196,7 +196,7 @@ returns-in_err-ended-clause-others g c p other =
     let names : c.finish.new.self.names.now ≡ c.names-1.given.0 = search rules in
     let door = g.D.Desk.fixed c.args.desk.now in let old = g.D.Desk.front c.args.desk.now in let mid = g.D.Desk.front c.hold-own.new.self in let look = g.D.Desk.front c.look-look.new.self in
     let key = c.in_ok-key.key in let own = c.hold-own.result in let known = g.N.Names.known c.key.new.self in let asked = g.N.Names.asked c.key.new.self in
-    let adds : Adds door.caller old mid (Hold c.args.q key own.ty own.changes) = rw (c.reserve.ensures.fixed, c.reserve.ensures.front) at c.hold-own.ensures.entry in
+    let adds : Adds door.caller old mid (Hold key c.args.q own.ty own.changes) = rw (c.reserve.ensures.fixed, c.reserve.ensures.front) at c.hold-own.ensures.entry in
     let legal : IsLegal door.limit mid = rw (c.reserve.ensures.fixed) at c.hold-own.ensures.legal in
     let seen = rw (c.hold-own.ensures.fixed, c.reserve.ensures.fixed) at c.look-look.ensures.seen in
     let later : IsLegal door.limit look = rw (c.hold-own.ensures.fixed, c.reserve.ensures.fixed) at c.look-look.ensures.legal in
@@ -219,7 +219,7 @@ returns-clause-entered g c =
     let names : c.finish.new.self.names.now ≡ c.names-1.given.0 = search rules in
     let door = g.D.Desk.fixed c.args.desk.now in let old = g.D.Desk.front c.args.desk.now in let mid = g.D.Desk.front c.hold-own.new.self in let look = g.D.Desk.front c.look-look.new.self in
     let key = c.in_ok-key.key in let own = c.hold-own.result in let known = g.N.Names.known c.key.new.self in let asked = g.N.Names.asked c.key.new.self in
-    let adds : Adds door.caller old mid (Hold c.args.q key own.ty own.changes) = rw (c.reserve.ensures.fixed, c.reserve.ensures.front) at c.hold-own.ensures.entry in
+    let adds : Adds door.caller old mid (Hold key c.args.q own.ty own.changes) = rw (c.reserve.ensures.fixed, c.reserve.ensures.front) at c.hold-own.ensures.entry in
     let legal : IsLegal door.limit mid = rw (c.reserve.ensures.fixed) at c.hold-own.ensures.legal in
     let seen = rw (c.hold-own.ensures.fixed, c.reserve.ensures.fixed) at c.look-look.ensures.seen in
     let later : IsLegal door.limit look = rw (c.hold-own.ensures.fixed, c.reserve.ensures.fixed) at c.look-look.ensures.legal in
@@ -244,7 +244,7 @@ returns-clause-framed g c =
     let names : c.finish.new.self.names.now ≡ c.names-1.given.0 = search rules in
     let door = g.D.Desk.fixed c.args.desk.now in let old = g.D.Desk.front c.args.desk.now in let mid = g.D.Desk.front c.hold-own.new.self in let look = g.D.Desk.front c.look-look.new.self in
     let key = c.in_ok-key.key in let own = c.hold-own.result in let known = g.N.Names.known c.key.new.self in let asked = g.N.Names.asked c.key.new.self in
-    let adds : Adds door.caller old mid (Hold c.args.q key own.ty own.changes) = rw (c.reserve.ensures.fixed, c.reserve.ensures.front) at c.hold-own.ensures.entry in
+    let adds : Adds door.caller old mid (Hold key c.args.q own.ty own.changes) = rw (c.reserve.ensures.fixed, c.reserve.ensures.front) at c.hold-own.ensures.entry in
     let legal : IsLegal door.limit mid = rw (c.reserve.ensures.fixed) at c.hold-own.ensures.legal in
     let seen = rw (c.hold-own.ensures.fixed, c.reserve.ensures.fixed) at c.look-look.ensures.seen in
     let later : IsLegal door.limit look = rw (c.hold-own.ensures.fixed, c.reserve.ensures.fixed) at c.look-look.ensures.legal in
@@ -264,7 +264,7 @@ returns-clause-kept g c =
     let names : c.finish.new.self.names.now ≡ c.names-1.given.0 = search rules in
     let door = g.D.Desk.fixed c.args.desk.now in let old = g.D.Desk.front c.args.desk.now in let mid = g.D.Desk.front c.hold-own.new.self in let look = g.D.Desk.front c.look-look.new.self in
     let key = c.in_ok-key.key in let own = c.hold-own.result in let known = g.N.Names.known c.key.new.self in let asked = g.N.Names.asked c.key.new.self in
-    let adds : Adds door.caller old mid (Hold c.args.q key own.ty own.changes) = rw (c.reserve.ensures.fixed, c.reserve.ensures.front) at c.hold-own.ensures.entry in
+    let adds : Adds door.caller old mid (Hold key c.args.q own.ty own.changes) = rw (c.reserve.ensures.fixed, c.reserve.ensures.front) at c.hold-own.ensures.entry in
     let legal : IsLegal door.limit mid = rw (c.reserve.ensures.fixed) at c.hold-own.ensures.legal in
     let seen = rw (c.hold-own.ensures.fixed, c.reserve.ensures.fixed) at c.look-look.ensures.seen in
     let later : IsLegal door.limit look = rw (c.hold-own.ensures.fixed, c.reserve.ensures.fixed) at c.look-look.ensures.legal in
@@ -281,7 +281,7 @@ returns-clause-grown g c told =
     let names : c.finish.new.self.names.now ≡ c.names-1.given.0 = search rules in
     let door = g.D.Desk.fixed c.args.desk.now in let old = g.D.Desk.front c.args.desk.now in let mid = g.D.Desk.front c.hold-own.new.self in let look = g.D.Desk.front c.look-look.new.self in
     let key = c.in_ok-key.key in let own = c.hold-own.result in let known = g.N.Names.known c.key.new.self in let asked = g.N.Names.asked c.key.new.self in
-    let adds : Adds door.caller old mid (Hold c.args.q key own.ty own.changes) = rw (c.reserve.ensures.fixed, c.reserve.ensures.front) at c.hold-own.ensures.entry in
+    let adds : Adds door.caller old mid (Hold key c.args.q own.ty own.changes) = rw (c.reserve.ensures.fixed, c.reserve.ensures.front) at c.hold-own.ensures.entry in
     let legal : IsLegal door.limit mid = rw (c.reserve.ensures.fixed) at c.hold-own.ensures.legal in
     let seen = rw (c.hold-own.ensures.fixed, c.reserve.ensures.fixed) at c.look-look.ensures.seen in
     let later : IsLegal door.limit look = rw (c.hold-own.ensures.fixed, c.reserve.ensures.fixed) at c.look-look.ensures.legal in
@@ -309,7 +309,7 @@ returns-clause-others g c p other =
     let names : c.finish.new.self.names.now ≡ c.names-1.given.0 = search rules in
     let door = g.D.Desk.fixed c.args.desk.now in let old = g.D.Desk.front c.args.desk.now in let mid = g.D.Desk.front c.hold-own.new.self in let look = g.D.Desk.front c.look-look.new.self in
     let key = c.in_ok-key.key in let own = c.hold-own.result in let known = g.N.Names.known c.key.new.self in let asked = g.N.Names.asked c.key.new.self in
-    let adds : Adds door.caller old mid (Hold c.args.q key own.ty own.changes) = rw (c.reserve.ensures.fixed, c.reserve.ensures.front) at c.hold-own.ensures.entry in
+    let adds : Adds door.caller old mid (Hold key c.args.q own.ty own.changes) = rw (c.reserve.ensures.fixed, c.reserve.ensures.front) at c.hold-own.ensures.entry in
     let legal : IsLegal door.limit mid = rw (c.reserve.ensures.fixed) at c.hold-own.ensures.legal in
     let seen = rw (c.hold-own.ensures.fixed, c.reserve.ensures.fixed) at c.look-look.ensures.seen in
     let later : IsLegal door.limit look = rw (c.hold-own.ensures.fixed, c.reserve.ensures.fixed) at c.look-look.ensures.legal in
@@ -333,7 +333,7 @@ returns-clause-cache g c =
     let names : c.finish.new.self.names.now ≡ c.names-1.given.0 = search rules in
     let door = g.D.Desk.fixed c.args.desk.now in let old = g.D.Desk.front c.args.desk.now in let mid = g.D.Desk.front c.hold-own.new.self in let look = g.D.Desk.front c.look-look.new.self in
     let key = c.in_ok-key.key in let own = c.hold-own.result in let known = g.N.Names.known c.key.new.self in let asked = g.N.Names.asked c.key.new.self in
-    let adds : Adds door.caller old mid (Hold c.args.q key own.ty own.changes) = rw (c.reserve.ensures.fixed, c.reserve.ensures.front) at c.hold-own.ensures.entry in
+    let adds : Adds door.caller old mid (Hold key c.args.q own.ty own.changes) = rw (c.reserve.ensures.fixed, c.reserve.ensures.front) at c.hold-own.ensures.entry in
     let legal : IsLegal door.limit mid = rw (c.reserve.ensures.fixed) at c.hold-own.ensures.legal in
     let seen = rw (c.hold-own.ensures.fixed, c.reserve.ensures.fixed) at c.look-look.ensures.seen in
     let later : IsLegal door.limit look = rw (c.hold-own.ensures.fixed, c.reserve.ensures.fixed) at c.look-look.ensures.legal in
@@ -365,7 +365,7 @@ returns-clause-own g c told =
     let names : c.finish.new.self.names.now ≡ c.names-1.given.0 = search rules in
     let door = g.D.Desk.fixed c.args.desk.now in let old = g.D.Desk.front c.args.desk.now in let mid = g.D.Desk.front c.hold-own.new.self in let look = g.D.Desk.front c.look-look.new.self in
     let key = c.in_ok-key.key in let own = c.hold-own.result in let known = g.N.Names.known c.key.new.self in let asked = g.N.Names.asked c.key.new.self in
-    let adds : Adds door.caller old mid (Hold c.args.q key own.ty own.changes) = rw (c.reserve.ensures.fixed, c.reserve.ensures.front) at c.hold-own.ensures.entry in
+    let adds : Adds door.caller old mid (Hold key c.args.q own.ty own.changes) = rw (c.reserve.ensures.fixed, c.reserve.ensures.front) at c.hold-own.ensures.entry in
     let legal : IsLegal door.limit mid = rw (c.reserve.ensures.fixed) at c.hold-own.ensures.legal in
     let seen = rw (c.hold-own.ensures.fixed, c.reserve.ensures.fixed) at c.look-look.ensures.seen in
     let later : IsLegal door.limit look = rw (c.hold-own.ensures.fixed, c.reserve.ensures.fixed) at c.look-look.ensures.legal in
@@ -405,7 +405,7 @@ returns-clause-collects g c =
     let names : c.finish.new.self.names.now ≡ c.names-1.given.0 = search rules in
     let door = g.D.Desk.fixed c.args.desk.now in let old = g.D.Desk.front c.args.desk.now in let mid = g.D.Desk.front c.hold-own.new.self in let look = g.D.Desk.front c.look-look.new.self in
     let key = c.in_ok-key.key in let own = c.hold-own.result in let known = g.N.Names.known c.key.new.self in let asked = g.N.Names.asked c.key.new.self in
-    let adds : Adds door.caller old mid (Hold c.args.q key own.ty own.changes) = rw (c.reserve.ensures.fixed, c.reserve.ensures.front) at c.hold-own.ensures.entry in
+    let adds : Adds door.caller old mid (Hold key c.args.q own.ty own.changes) = rw (c.reserve.ensures.fixed, c.reserve.ensures.front) at c.hold-own.ensures.entry in
     let legal : IsLegal door.limit mid = rw (c.reserve.ensures.fixed) at c.hold-own.ensures.legal in
     let seen = rw (c.hold-own.ensures.fixed, c.reserve.ensures.fixed) at c.look-look.ensures.seen in
     let later : IsLegal door.limit look = rw (c.hold-own.ensures.fixed, c.reserve.ensures.fixed) at c.look-look.ensures.legal in
@@ -430,7 +430,7 @@ returns-clause-marks g c =
     let names : c.finish.new.self.names.now ≡ c.names-1.given.0 = search rules in
     let door = g.D.Desk.fixed c.args.desk.now in let old = g.D.Desk.front c.args.desk.now in let mid = g.D.Desk.front c.hold-own.new.self in let look = g.D.Desk.front c.look-look.new.self in
     let key = c.in_ok-key.key in let own = c.hold-own.result in let known = g.N.Names.known c.key.new.self in let asked = g.N.Names.asked c.key.new.self in
-    let adds : Adds door.caller old mid (Hold c.args.q key own.ty own.changes) = rw (c.reserve.ensures.fixed, c.reserve.ensures.front) at c.hold-own.ensures.entry in
+    let adds : Adds door.caller old mid (Hold key c.args.q own.ty own.changes) = rw (c.reserve.ensures.fixed, c.reserve.ensures.front) at c.hold-own.ensures.entry in
     let legal : IsLegal door.limit mid = rw (c.reserve.ensures.fixed) at c.hold-own.ensures.legal in
     let seen = rw (c.hold-own.ensures.fixed, c.reserve.ensures.fixed) at c.look-look.ensures.seen in
     let later : IsLegal door.limit look = rw (c.hold-own.ensures.fixed, c.reserve.ensures.fixed) at c.look-look.ensures.legal in

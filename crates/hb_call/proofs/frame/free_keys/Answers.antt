@@ -18,7 +18,7 @@ loop-key-preserved g c =
     let old = g.D.Desk.front c.loop-key.desk in let new = g.D.Desk.front c.free.new.self in
     let who = (g.D.Desk.fixed c.args.desk.now).caller in
     let key = get_or c.args.keys.now c.loop-key.key-index (record { 0 = 0 }) in
-    let adds : Adds who old new (Free c.args.q key) = subst (λ (z : Fixed). Adds z.caller old new (Free c.args.q key)) c.loop-key.invariant.fixed c.free.ensures.entry in
+    let adds : Adds who old new (Free key c.args.q) = subst (λ (z : Fixed). Adds z.caller old new (Free key c.args.q)) c.loop-key.invariant.fixed c.free.ensures.entry in
     let may = may_drop c.args.keys.now c.loop-key.key-index (record { 0 = 0 }) (stands who c.args.q.0 old) c.loop-key-test.true c.loop-key.invariant.left in
     record {
       fixed = c.free.ensures.fixed ∙ c.loop-key.invariant.fixed;

@@ -2,6 +2,7 @@ use Rattle.std.proofs.Common.{ℕ, ◌+◌, List, ◌∙◌, ap, map, sym, subst
 use Rattle.std.specs.Prelude.{drop}
 use Rattle.std.proofs.lemmas.List.{drop_more}
 use Rattle.hb_turns.specs.Players.{HaveGone}
+use Rattle.hb_turns.proofs.CollectingLemmas.{collected_on}
 use Rattle.hb_turns.proofs.GoneLemmas.{gone_follows}
 use Rattle.hb_turns.proofs.ordered.play_by_order.Goals as goal
 
@@ -22,4 +23,6 @@ loop-next-preserved c =
       (let below = c.loop-next-test.true in omega (arith, below)),
       subst (λ (n : ℕ). HaveGone c.args.prog.now n order (map (λ x. x.0) (drop (c.loop-next.next + 1) c.args.order.now)) c.args.names.now c.follow.new.names c.args.tables.now.log
           c.follow.new.tables.log c.args.players.now.items c.follow.new.players.items) (sym came.limit) gone,
+      collected_on c.args.prog.now c.args.names.now c.loop-next.names c.follow.new.names c.args.tables.now.log c.loop-next.tables.log c.follow.new.tables.log
+          c.args.share.now c.loop-next.share c.follow.new.share inv.4 came.collects,
     )

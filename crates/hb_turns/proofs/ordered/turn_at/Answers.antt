@@ -34,4 +34,4 @@ returns-clause-took c =
     (length c.args.players.now.items) c.args.at c.index_mut-player.result.now refl c.requires.there c.index_mut-player.ensures.value in
     took_turn c.args.prog.now c.args.tables.now.limit c.args.first c.args.at c.args.names.now c.play.new.names c.args.tables.now.log c.play.new.tables.log c.args.players.now.items
     c.index_mut-player.result.now c.play.new.player
-    there c.requires.there (c.requires.goes_on c.index_mut-player.result.now there) came.took came.under_way came.at came.numbered came.fuel came.named
+    there c.requires.there (c.requires.goes_on c.index_mut-player.result.now there) came.took came.under_way came.at came.numbered came.named

@@ -3,6 +3,7 @@ use Rattle.hb_eval.specs.State.{tagged}
 use Rattle.hb_eval.specs.declared.machine.Turn.{Turn}
 use Rattle.hb_eval.specs.Machines.{Turns}
 use Rattle.hb_turns.specs.Playing.{IsUnderWay}
+use Rattle.hb_turns.proofs.CollectingLemmas.{collected_on}
 use Rattle.hb_turns.proofs.PlayingLemmas.{own_came}
 use Rattle.hb_turns.proofs.run.play_alone.Goals as goal
 
@@ -22,6 +23,8 @@ loop-preserved c =
       own_came 0 came.took.more c.loop.tables.log c.take_turn.new.tables.log inv.2 came.took.came,
       came.limit ∙ inv.3,
       λ steps done p. (let on = inv.4 steps done p in (on.0 ++ tagged c.take_turn.new.machine.state.begun came.took.more, came.took.plays steps on.0 on.1)),
+      collected_on c.args.prog.now c.args.names.now c.loop.names c.take_turn.new.names c.args.tables.now.log c.loop.tables.log c.take_turn.new.tables.log
+          c.args.share.now c.loop.share c.take_turn.new.share inv.5 came.collects,
     )
 
 pub returns-in-Ended-clause-plays : goal.returns-in-Ended-clause-plays
@@ -34,3 +37,7 @@ pub returns-in-Ended-clause-own : goal.returns-in-Ended-clause-own
 returns-in-Ended-clause-own c =
     let came = c.in_ok-take_turn.ensures in
     own_came 0 came.took.more c.loop.tables.log c.take_turn.new.tables.log c.loop.invariant.2 came.took.came
+
+pub returns-in-Ended-clause-collects : goal.returns-in-Ended-clause-collects
+returns-in-Ended-clause-collects c = collected_on c.args.prog.now c.args.names.now c.loop.names c.take_turn.new.names c.args.tables.now.log c.loop.tables.log c.take_turn.new.tables.log
+    c.args.share.now c.loop.share c.take_turn.new.share c.loop.invariant.5 c.in_ok-take_turn.ensures.collects

@@ -5,6 +5,7 @@ use Rattle.hb_eval.specs.declared.script_run.ScriptRun.{ScriptRun}
 use Rattle.hb_eval.specs.Told.{is_done}
 use Rattle.hb_turns.specs.Playing.{IsUnderWay}
 use Rattle.hb_turns.specs.Players.{ScriptsRan}
+use Rattle.hb_turns.proofs.CollectingLemmas.{collected_on}
 use Rattle.hb_turns.proofs.RunLemmas.{nothing_under_way, ordered_done, ordered_none, ordered_stopped}
 use Rattle.hb_turns.proofs.run.run_all.Goals as goal
 
@@ -26,6 +27,7 @@ returns-then-not-done c =
     record {
       ordered = ordered_stopped t limit c.args.steps order c.run_setup.new.names c.run_setup.new.tables.log c.in-Some.block r c.push.new.self.items
           (sym c.setup.ensures.value ∙ c.in-Some.is) one came.own under_way came.ran stopped;
+      collects = came.collects;
     }
 
 pub returns-in_ok-runs-in-None : goal.returns-in_ok-runs-in-None
@@ -40,6 +42,7 @@ returns-in_ok-runs-in-None c =
     record {
       ordered = ordered_none t limit c.args.steps order c.run_scripts.new.names c.run_scripts.new.tables.log c.new-runs.result.items c.in_ok-runs-in-None.runs.items
           (sym c.setup.ensures.value ∙ c.in-None.is) c.new-runs.ensures.items ran;
+      collects = c.in_ok-runs-in-None.ensures.collects;
     }
 
 pub returns-in_ok-runs-in-Some : goal.returns-in_ok-runs-in-Some
@@ -57,4 +60,6 @@ returns-in_ok-runs-in-Some c =
           (sym c.setup.ensures.value ∙ c.in-Some.is) one came.own came.ran done
           (subst (λ (n : ℕ). ScriptsRan t n c.args.steps order c.run_setup.new.names c.run_scripts-in-Some.new.names c.run_setup.new.tables.log c.run_scripts-in-Some.new.tables.log
           c.push.new.self.items c.in_ok-runs-in-Some.runs.items) came.limit c.in_ok-runs-in-Some.ensures.ran);
+      collects = collected_on t c.args.names.now c.run_setup.new.names c.run_scripts-in-Some.new.names c.args.tables.now.log c.run_setup.new.tables.log c.run_scripts-in-Some.new.tables.log
+          c.args.share.now c.run_setup.new.share c.run_scripts-in-Some.new.share came.collects c.in_ok-runs-in-Some.ensures.collects;
     }

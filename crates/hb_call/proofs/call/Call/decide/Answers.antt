@@ -367,4 +367,4 @@ returns-in-Ok-clause-asks g c =
     let d = rw (c.reserve.ensures.fixed, c.reserve.ensures.front) at c.in-Ok.ensures.answer in
     let all = alike_on _ _ _ _ _ _ c.loop-ruling.invariant.alike c.ruling.ensures.alike in
     asks_by (given_of g.D.Desk.fixed o) (given_of g.D.Desk.fixed s) all.same (moment_of g.D.Desk.front g.N.Names.known g.N.Names.asked o) (moment_of g.D.Desk.front g.N.Names.known g.N.Names.asked s) (g.D.Desk.front c.decide.new.self) s.held.now.items
-    (Call s.q s.key c.loop-ruling.look.site s.args c.verdict-verdict.result) all.goes (d.0, d.1, d.2) c.requires.own (c.requires.calling.asked_for o.key.0 c.requires.calling.own_is.0) c.in_ok-ruling.ensures.ruled.calling.holds c.in_ok-ruling.ruling c.in_ok-ruling.ensures.marks
+    (Call s.key s.q c.loop-ruling.look.site s.args c.verdict-verdict.result) all.goes (d.0, d.1, d.2) c.requires.own (c.requires.calling.asked_for o.key.0 c.requires.calling.own_is.0) c.in_ok-ruling.ensures.ruled.calling.holds c.in_ok-ruling.ruling c.in_ok-ruling.ensures.marks

@@ -6,8 +6,8 @@ use Rattle.hb_draft.proofs.draft.Draft.binary.Goals as goal
 pub on_top-a-requires : goal.on_top-a-requires
 on_top-a-requires c = omega (arith, enough_nodes c.args.self.now 2 c.requires.parts)
 
-pub put-requires : goal.put-requires
-put-requires c = rw c.placed.ensures (binary_can c.args.self.now c.args.place c.requires.room c.args.op c.on_top-a.result c.on_top-b.result c.requires.parts c.on_top-a.ensures c.on_top-b.ensures)
+pub put-requires-clause-over : goal.put-requires-clause-over
+put-requires-clause-over c = rw c.placed.ensures (binary_can c.args.self.now c.args.place c.requires.room c.args.op c.on_top-a.result c.on_top-b.result c.requires.parts c.on_top-a.ensures c.on_top-b.ensures)
 
 pub returns-clause-put : goal.returns-clause-put
 returns-clause-put c = on_ok_weaker c.put.result (λ h. binary_puts c.args.self.now c.put.new.self c.args.place c.args.op c.on_top-a.result c.on_top-b.result c.requires.parts c.on_top-a.ensures

@@ -10,8 +10,8 @@ on_top-receiver-requires c = omega (arith, enough_nodes c.args.self.now (c.args.
 pub last_of-requires : goal.last_of-requires
 last_of-requires c = rw (c.deref.ensures.value, ap (λ (d : Unfinished). d.nodes) c.self.view_is) (omega (arith, enough_nodes c.args.self.now (c.args.count + 1) c.requires.parts))
 
-pub put-requires : goal.put-requires
-put-requires c =
+pub put-requires-clause-over : goal.put-requires-clause-over
+put-requires-clause-over c =
     rw c.placed.ensures (call_can c.args.self.now c.args.place c.requires.room c.on_top-receiver.result c.args.name c.arg_list-args.result c.args.count c.requires.parts c.on_top-receiver.ensures
     (c.arg_list-args.ensures.args ∙ c.last_of.ensures ∙ ap (last_nodes c.args.count) (c.deref.ensures.value ∙ ap (λ (d : Unfinished). d.nodes) c.self.view_is)) c.arg_list-args.ensures.form c.requires.name)
 

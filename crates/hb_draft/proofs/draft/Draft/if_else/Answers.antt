@@ -6,8 +6,8 @@ use Rattle.hb_draft.proofs.draft.Draft.if_else.Goals as goal
 pub on_top-condition-requires : goal.on_top-condition-requires
 on_top-condition-requires c = omega (arith, three_nodes c.args.self.now c.requires.parts)
 
-pub put-requires : goal.put-requires
-put-requires c =
+pub put-requires-clause-over : goal.put-requires-clause-over
+put-requires-clause-over c =
     rw c.placed.ensures (if_can c.args.self.now c.args.place c.requires.room c.on_top-condition.result c.on_top-then.result c.on_top-other.result c.requires.parts
     c.on_top-condition.ensures c.on_top-then.ensures c.on_top-other.ensures)
 

@@ -8,8 +8,8 @@ use Rattle.hb_draft.proofs.draft.Draft.to_str.Goals as goal
 pub on_top-e-requires : goal.on_top-e-requires
 on_top-e-requires c = omega (arith, enough_nodes c.args.self.now 1 c.requires.parts)
 
-pub put-requires : goal.put-requires
-put-requires c = rw c.placed.ensures (unary_can c.args.self.now c.args.place c.requires.room (node.ToStr c.on_top-e.result) c.on_top-e.result c.requires.parts c.on_top-e.ensures refl refl tt tt)
+pub put-requires-clause-over : goal.put-requires-clause-over
+put-requires-clause-over c = rw c.placed.ensures (unary_can c.args.self.now c.args.place c.requires.room (node.ToStr c.on_top-e.result) c.on_top-e.result c.requires.parts c.on_top-e.ensures refl refl tt tt)
 
 pub returns-clause-put : goal.returns-clause-put
 returns-clause-put c = on_ok_weaker c.put.result (λ h. unary_puts c.args.self.now c.put.new.self c.args.place

@@ -6,8 +6,8 @@ use Rattle.hb_draft.proofs.draft.Draft.while_loop.Goals as goal
 pub on_top-condition-requires : goal.on_top-condition-requires
 on_top-condition-requires c = omega (arith, two_nodes c.args.self.now c.requires.parts)
 
-pub put-requires : goal.put-requires
-put-requires c =
+pub put-requires-clause-over : goal.put-requires-clause-over
+put-requires-clause-over c =
     rw c.placed.ensures (while_can c.args.self.now c.args.place c.requires.room c.on_top-condition.result c.on_top-block.result c.requires.parts c.on_top-condition.ensures c.on_top-block.ensures)
 
 pub returns-clause-put : goal.returns-clause-put

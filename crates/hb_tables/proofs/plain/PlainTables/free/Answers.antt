@@ -34,7 +34,7 @@ invariant_of-self c =
     let f = free_tables c.self.inside.versions c.self.inside.history.items c.self.inside.states.items c.self.inside.owed c.self.inside.caller.0 c.args.q c.args.key c.index_mut.result.now i.0
     c.self.invariant.2.low c.requires.key c.index_mut.ensures.value one in
     let some_owed = f.some in let fits = i.1 in let n = p.len in let k = p.capacity in
-    (rw p.items f.tables, omega (arith, some_owed, fits, n, k), rw p.items (open_more c.self.inside.caller.0 c.self.inside.opened c.self.inside.history.items (Free c.args.q c.args.key) i.2))
+    (rw p.items f.tables, omega (arith, some_owed, fits, n, k), rw p.items (open_more c.self.inside.caller.0 c.self.inside.opened c.self.inside.history.items (Free c.args.key c.args.q) i.2))
 
 pub returns-clause-spare : goal.returns-clause-spare
 returns-clause-spare c =

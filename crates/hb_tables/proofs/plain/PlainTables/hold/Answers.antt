@@ -20,7 +20,7 @@ invariant_of-self c =
     c.index_mut.ensures.value c.requires.key (sym i.0.wide) ∙ sym c.index-state.ensures in (
       rw p.items (rw same tables),
       omega (arith, room, ask, fits, n, k),
-      rw p.items (open_more c.self.inside.caller.0 c.self.inside.opened c.self.inside.history.items (Hold c.args.q c.args.key c.index-state.result.now.ty c.index-state.result.now.changes) i.2),
+      rw p.items (open_more c.self.inside.caller.0 c.self.inside.opened c.self.inside.history.items (Hold c.args.key c.args.q c.index-state.result.now.ty c.index-state.result.now.changes) i.2),
     )
 
 pub returns-clause-legal : goal.returns-clause-legal

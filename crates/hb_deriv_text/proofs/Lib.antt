@@ -1,0 +1,12 @@
+pub mod GrowthLemmas
+pub mod FirstLemmas
+pub mod IndexLemmas
+pub mod TextLemmas
+pub mod SpellingLemmas
+pub mod ReadLemmas
+pub mod MarkLemmas
+pub mod FoundLemmas
+pub mod LineLemmas
+pub mod WholeLemmas
+pub mod FitLemmas
+pub mod FaultLemmas

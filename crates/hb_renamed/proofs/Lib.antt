@@ -1,0 +1,9 @@
+mod ActLemmas
+mod RuleLemmas
+mod OwnLemmas
+mod OrderLemmas
+mod RunLemmas
+mod HistoryLemmas
+mod FirstUseLemmas
+mod OneScriptLemmas
+mod WholeLemmas

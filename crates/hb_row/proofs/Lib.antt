@@ -1,0 +1,7 @@
+mod EndLemmas
+mod ListLemmas
+mod NoteLemmas
+mod PackingLemmas
+mod PlacingLemmas
+mod SeatLemmas
+mod SittingLemmas

@@ -1,0 +1,6 @@
+use Rattle.std.proofs.Common.{◌≡◌, []}
+use Rattle.hb_trials_words.specs.Calls.{calls_of}
+use Rattle.hb_trials_words.proofs.threads.look_often.Given as goal
+
+abbrev pub invariant-loop : goal.invariant-loop
+invariant-loop g l = (g.D.Desk.fixed l.desk ≡ g.D.Desk.fixed l.initial.desk) × (calls_of (g.D.Desk.fixed l.initial.desk).caller (g.D.Desk.front l.desk) ≡ [])

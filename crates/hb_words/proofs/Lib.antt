@@ -1,0 +1,12 @@
+pub mod BeginningLemmas
+pub mod AmongLemmas
+pub mod ChangeLemmas
+pub mod WordLemmas
+pub mod RuleLemmas
+pub mod TypeStepLemmas
+pub mod DefStepLemmas
+pub mod QuietLemmas
+pub mod RetryLemmas
+pub mod SeatLemmas
+pub mod ClosingLemmas
+pub mod WholeLemmas

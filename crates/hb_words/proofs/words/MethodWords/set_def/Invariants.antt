@@ -1,0 +1,13 @@
+use Rattle.std.proofs.Common.{◌≡◌, ◌<◌, ◌-◌}
+use Rattle.hb_tables.specs.History.{spot}
+use Rattle.hb_words.specs.Layout.{def_word, redefs_in}
+use Rattle.hb_words.specs.Words.{IsSeatOf, Looks}
+use Rattle.hb_words.proofs.words.MethodWords.set_def.Given as goal
+
+abbrev pub invariant-loop-answer : goal.invariant-loop-answer
+invariant-loop-answer l =
+    IsSeatOf l.self.table.shared.table_id l.self.table.shared.key l.seat.place × Looks l.fn.seat.place.me.0 l.seat.place.me.0
+    × (l.found ≡ def_word (spot l.key.0 l.seat.place.me.0.seen)) × (redefs_in l.found < l.seat.place.me.0.limit)
+
+abbrev pub decreases-loop-answer : goal.decreases-loop-answer
+decreases-loop-answer l = l.seat.place.me.0.limit - redefs_in l.found

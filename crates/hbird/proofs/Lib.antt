@@ -1,4 +1,0 @@
-pub mod FaultLemmas
-pub mod RunLemmas
-pub mod OneDueLemmas
-pub mod OneReportLemmas

@@ -1,5 +1,0 @@
-use Rattle.hbird.proofs.OneReportLemmas.{one-report}
-use Rattle.hbird.proofs.top.one_report.Goals as goal
-
-pub returns : goal.returns
-returns c = one-report c.an_order_has_one_history.ensures

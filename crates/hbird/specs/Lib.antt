@@ -1,5 +1,0 @@
--- What the program answers: by its words, and by what the bytes read say.
-pub mod Outcomes
-pub mod Faults
-pub mod Reports
-pub mod Answers
