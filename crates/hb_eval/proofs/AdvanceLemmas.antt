@@ -1,5 +1,5 @@
 -- How a machine goes on, turn by turn.
-use Rattle.std.proofs.Common.{◌≡◌, ℕ, ◌+◌, ◌<◌, ◌≤◌, ◌^◌, inl, List, [], ◌∷◌, ◌++◌, length, Option, Some, None, refl, sym, ap, ◌∙◌, subst, arith, length-append, Vec, Global}
+use Rattle.std.proofs.Common.{◌≡◌, ℕ, ◌+◌, ◌<◌, ◌≤◌, ◌^◌, inl, inr, Bool, true, false, List, [], ◌∷◌, ◌++◌, length, Option, Some, None, refl, sym, ap, ◌∙◌, subst, arith, length-append, Vec, Global}
 use Rattle.std.specs.Prelude.{reverse}
 use Rattle.std.specs.List.{AllByRecursion}
 use mathlib.Core.List.{IsPrefix}
@@ -27,7 +27,7 @@ use Rattle.hb_eval.specs.Holding.{Holding, frames_of}
 use Rattle.hb_eval.proofs.HoldingLemmas.{holding_end}
 use Rattle.hb_eval.specs.State.{tagged}
 use Rattle.hb_eval.specs.Machine.{need, frames_in}
-use Rattle.hb_eval.specs.Steps.{onto, InEach, Moves, IsFed, IsFine, IsLight, IsPlain, SameCalls, Started, Steady, AreKnown, Took, weigh_one, weigh_push}
+use Rattle.hb_eval.specs.Steps.{onto, InEach, Moves, HasCounted, IsFed, IsFine, IsLight, IsPlain, SameCalls, Started, Steady, AreKnown, TakesFuel, Took, weigh_one, weigh_push}
 use Rattle.hb_eval.specs.Stacks.{calls_in}
 use Rattle.hb_eval.specs.Ends.{Lowers, with_stop}
 use Rattle.hb_eval.specs.Turns.{Telling, Reads, Goes, Turned, after, at_beginning, stands_at, with_value}
@@ -60,10 +60,24 @@ time_on hands.Stops x y h begun fuel = tt
 time_on hands.Gives x y h begun fuel = omega (arith, h, begun, fuel)
 time_on hands.Begins x y h begun fuel = omega (arith, h, begun, fuel)
 
-time_fed : (b : Hand) (x y : State) → x.begun + x.fuel < 2 ^ 32 → y.begun ≡ x.begun + 1 → IsFed b x.fuel y.fuel → IsTimed b y
-time_fed hands.Stops x y h begun fed = tt
-time_fed hands.Gives x y h begun fed = omega (arith, h, begun, fed)
-time_fed hands.Begins x y h begun fed = omega (arith, h, begun, fed)
+time_fed : (b : Hand) (x y : State) → x.begun + x.fuel < 2 ^ 32 → IsFed b x y → IsTimed b y
+time_fed hands.Stops x y h fed = tt
+time_fed hands.Gives x y h fed = omega (arith, h, fed)
+time_fed hands.Begins x y h fed = omega (arith, h, fed)
+
+-- at least one expression began
+pub counted_some : (far : Bool) (x y : State) → HasCounted far x y → x.begun < y.begun
+counted_some true x y h = h
+counted_some false x y h = omega (arith, h)
+
+-- one did
+pub counted_one : (far : Bool) (x y : State) → y.begun ≡ x.begun + 1 → HasCounted far x y
+counted_one true x y h = omega (arith, h)
+counted_one false x y h = h
+
+pub counted_on : (far : Bool) (x y z : State) → z.begun ≡ y.begun → HasCounted far x y → HasCounted far x z
+counted_on true x y z e h = omega (arith, e, h)
+counted_on false x y z e h = e ∙ h
 
 -- the answer of a machine behind a move
 moved_same : (t : Table) (new : Machine) (ks : List Cont) (m : Move) → new.hand ≡ m.hand → reverse new.conts.items ≡ onto m.push (onto m.under ks)
@@ -217,45 +231,46 @@ value_falls t c known past now old new k rest given all turned =
     let right : turns_left old ≡ 1 + (weigh_one k + sum_over weigh_one (reverse rest)) = ap (λ (h : Hand). weigh h (reverse old.conts.items)) given ∙ ap (weigh hands.Gives) top in
     omega (arith, less, left, right)
 
--- an expression began
-pub begin_turn : (t : Table) (c : ℕ) (known asked : List Name) (log : List Entry) (old new : Machine) → old.hand ≡ hands.Begins → IsFineMachine t old
+-- expressions began
+pub begin_turn : (far : Bool) (t : Table) (c : ℕ) (known asked : List Name) (log : List Entry) (old new : Machine) → old.hand ≡ hands.Begins → IsFineMachine t old
     → Started t old.state new.state old.conts.items new.conts.items new.hand → new.frames.items ≡ old.frames.items
-    → new.state.begun ≡ old.state.begun + 1 → IsFed new.hand old.state.fuel new.state.fuel → SameCalls old.state new.state → (AreKnown t old.state → AreKnown t new.state) → new.state.cache ≡ old.state.cache
-    → Begins t c known known asked asked log log old new
-begin_turn t c known asked log old new going f s frames begun fed calls known_stays cache =
+    → HasCounted far old.state new.state → IsFed new.hand old.state new.state → SameCalls old.state new.state → (AreKnown t old.state → AreKnown t new.state) → new.state.cache ≡ old.state.cache
+    → Begins far t c known known asked asked log log old new
+begin_turn far t c known asked log old new going f s frames begun fed calls known_stays cache =
     let ks = reverse old.conts.items in
     let m = s.move in
     let at : List Framed → Type 0 = λ fs. Reads known c log log old.state new.state (at_beginning t old.frames.items old.state) (after t m fs new.state) in
     let goes : Goes t 0 0 0 old.frames.items old.state new.frames.items new.state m =
-    subst (λ fs. Goes t 0 0 0 old.frames.items old.state fs new.state m) (sym frames) (begun_goes t old.frames.items old.state new.state m (keeps_moves t None hands.Begins old.state new.state m s.moves) s.under s.push begun calls known_stays) in
+    subst (λ fs. Goes t 0 0 0 old.frames.items old.state fs new.state m) (sym frames) (begun_goes t old.frames.items old.state new.state m (keeps_moves t None hands.Begins old.state new.state m s.moves) s.under s.push (counted_some far old.state new.state begun) calls known_stays) in
     record {
       reads = moved_reads t known c log log old new ks m (at_beginning t old.frames.items old.state) (seen_same t old ks hands.Begins going refl) (subst at (sym frames) (begins_reads known t c log old.frames.items old.state new.state m s.moves calls)) s.took.hand s.took.conts;
       fine = fine_moved t 0 0 0 old new ks m f goes f.conts (let e = f.operands in omega (arith, e)) (let e = f.frames in omega (arith, e)) (let e = f.calls in omega (arith, e)) s.took.hand s.took.conts
-          (time_fed m.hand old.state new.state (subst (λ b. IsTimed b old.state) going f.time) begun (subst (λ b. IsFed b old.state.fuel new.state.fuel) s.took.hand fed));
+          (time_fed m.hand old.state new.state (subst (λ b. IsTimed b old.state) going f.time) (subst (λ b. IsFed b old.state new.state) s.took.hand fed));
       begun = begun;
       fed = fed;
       grown = grown_itself t c known asked log;
       own = subst (KeepsChecks t c known known asked asked log log old.state.cache) (sym cache) (keeps_itself t c known asked log old.state.cache);
     }
 
-one_fed : (b : Hand) (n o : ℕ) → n ≡ o + 1 → IsFed b n o
-one_fed hands.Stops n o e = inl e
-one_fed hands.Gives n o e = e
-one_fed hands.Begins n o e = e
+pub takes_fed : (b : Hand) (x y : State) → TakesFuel x y → IsFed b x y
+takes_fed hands.Stops x y h = inl h
+takes_fed hands.Gives x y h = h
+takes_fed hands.Begins x y h = h
 
-fed_on : (a b : Hand) (n m o : ℕ) → (a ≡ hands.Stops → b ≡ hands.Stops) → o ≡ m → IsFed a n m → IsFed b n o
-fed_on hands.Stops hands.Stops n m o h e fed = subst (IsFed hands.Stops n) (sym e) fed
-fed_on hands.Stops hands.Gives n m o h e fed = let w = h refl in absurd (cc w)
-fed_on hands.Stops hands.Begins n m o h e fed = let w = h refl in absurd (cc w)
-fed_on hands.Gives b n m o h e fed = one_fed b n o (subst (λ x. n ≡ x + 1) (sym e) fed)
-fed_on hands.Begins b n m o h e fed = one_fed b n o (subst (λ x. n ≡ x + 1) (sym e) fed)
+fed_on : (a b : Hand) (x y z : State) → (a ≡ hands.Stops → b ≡ hands.Stops) → z.begun ≡ y.begun → z.fuel ≡ y.fuel → IsFed a x y → IsFed b x z
+fed_on hands.Stops hands.Stops x y z h begun fuel (inl taken) = inl (omega (arith, begun, fuel, taken))
+fed_on hands.Stops hands.Stops x y z h begun fuel (inr none) = inr (none.0, fuel ∙ none.1)
+fed_on hands.Stops hands.Gives x y z h begun fuel fed = let w = h refl in absurd (cc w)
+fed_on hands.Stops hands.Begins x y z h begun fuel fed = let w = h refl in absurd (cc w)
+fed_on hands.Gives b x y z h begun fuel fed = takes_fed b x z (omega (arith, begun, fuel, fed))
+fed_on hands.Begins b x y z h begun fuel fed = takes_fed b x z (omega (arith, begun, fuel, fed))
 
-pub begins_on : (t : Table) (c : ℕ) (names known longer was mid asked : List Name) (past half now : List Entry) (old m new : Machine) → IsPrefix known longer → Begins t c names known was mid past half old m → Carries t c known longer mid asked half now m new → Begins t c names longer was asked past now old new
-begins_on t c names known longer was mid asked past half now old m new p a b = record {
+pub begins_on : (far : Bool) (t : Table) (c : ℕ) (names known longer was mid asked : List Name) (past half now : List Entry) (old m new : Machine) → IsPrefix known longer → Begins far t c names known was mid past half old m → Carries t c known longer mid asked half now m new → Begins far t c names longer was asked past now old new
+begins_on far t c names known longer was mid asked past half now old m new p a b = record {
   reads = reads_on known longer c past half now old.state m.state new.state (of_machine t old) (of_machine t m) (of_machine t new) p (sym b.begun) a.reads b.reads;
   fine = b.fine;
-  begun = b.begun ∙ a.begun;
-  fed = fed_on m.hand new.hand old.state.fuel m.state.fuel new.state.fuel b.stops b.fuel a.fed;
+  begun = counted_on far old.state m.state new.state b.begun a.begun;
+  fed = fed_on m.hand new.hand old.state m.state new.state b.stops b.begun b.fuel a.fed;
   grown = grown_on t c known longer was mid asked past half now a.grown b.grown p;
   own = keeps_on t c names known longer was mid asked past half now old.state.cache m.state.cache new.state.cache b.grown.kept a.own b.own;
 }
@@ -324,8 +339,8 @@ opened_advances t c known asked log old new o = record {
   own = subst (KeepsChecks t c known known asked asked log log old.state.cache) (sym o.steady.cache) (keeps_itself t c known asked log old.state.cache);
 }
 
-pub begun_advances : (t : Table) (c : ℕ) (names known was asked : List Name) (past now : List Entry) (old m new : Machine) → Opens t old m → Begins t c names known was asked past now m new → Advances t c names known was asked past now old new
-begun_advances t c names known was asked past now old m new o b = record {
+pub begun_advances : (far : Bool) (t : Table) (c : ℕ) (names known was asked : List Name) (past now : List Entry) (old m new : Machine) → Opens t old m → Begins far t c names known was asked past now m new → Advances t c names known was asked past now old new
+begun_advances far t c names known was asked past now old m new o b = record {
   reads = record {
     more = b.reads.more;
     grows = b.reads.grows;

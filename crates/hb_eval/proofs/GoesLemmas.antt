@@ -64,7 +64,7 @@ plain_goes t front frames old new move k under push begun same known =
     }
 
 -- an expression that begins
-pub begun_goes : (t : Table) (frames : List Framed) (old new : State) (move : Move) → Keeps t None old new move → IsPlain move.under → HasNoFrame move.push → new.begun ≡ old.begun + 1
+pub begun_goes : (t : Table) (frames : List Framed) (old new : State) (move : Move) → Keeps t None old new move → IsPlain move.under → HasNoFrame move.push → old.begun < new.begun
     → SameCalls old new → (AreKnown t old → AreKnown t new)
     → Goes t 0 0 0 frames old frames new move
 begun_goes t frames old new move k under push begun same known =

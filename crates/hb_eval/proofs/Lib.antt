@@ -20,6 +20,7 @@ pub mod CallFuelLemmas
 pub mod CallExamples
 pub mod BlockLemmas
 pub mod BeginLemmas
+pub mod AheadLemmas
 pub mod KnownLemmas
 pub mod TableLemmas
 pub mod MethodLemmas

@@ -10,6 +10,7 @@ pub mod Told
 pub mod Fuel
 pub mod Machine
 pub mod Steps
+pub mod Ahead
 pub mod Tables
 pub mod Stacks
 pub mod Turns

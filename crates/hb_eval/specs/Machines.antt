@@ -34,7 +34,7 @@ use Rattle.hb_eval.specs.Runs.{Run, script_run, start, is_call, is_entered}
 use Rattle.hb_eval.specs.Told.{told, told_by}
 use Rattle.hb_eval.specs.Noting.{IsJournal, journal_of}
 use Rattle.hb_eval.specs.Machine.{need, frames_in}
-use Rattle.hb_eval.specs.Steps.{IsFine, IsFineStep, IsFed, Steady, weigh_one}
+use Rattle.hb_eval.specs.Steps.{IsFine, IsFineStep, HasCounted, IsFed, Steady, weigh_one}
 use Rattle.hb_eval.specs.Stacks.{IsBased, AllKnown, calls_in}
 use Rattle.hb_eval.specs.Turns.{Telling, stands_at, Reads}
 
@@ -157,12 +157,12 @@ pub record Carries (t : Table) (c : ℕ) (names known was asked : List Name) (pa
   pub grown : Grown t c known was asked past now
   pub own : KeepsChecks t c names known was asked past now old.state.cache new.state.cache
 
--- An expression begins, and some acts come.
-pub record Begins (t : Table) (c : ℕ) (names known was asked : List Name) (past now : List Entry) (old new : Machine) : Type 0 where
+-- Expressions begin, and then some acts come.
+pub record Begins (far : Bool) (t : Table) (c : ℕ) (names known was asked : List Name) (past now : List Entry) (old new : Machine) : Type 0 where
   pub reads : Reads known c past now old.state new.state (of_machine t old) (of_machine t new)
   pub fine : IsFineMachine t new
-  pub begun : new.state.begun ≡ old.state.begun + 1
-  pub fed : IsFed new.hand old.state.fuel new.state.fuel
+  pub begun : HasCounted far old.state new.state
+  pub fed : IsFed new.hand old.state new.state
   pub grown : Grown t c known was asked past now
   pub own : KeepsChecks t c names known was asked past now old.state.cache new.state.cache
 
@@ -196,7 +196,7 @@ abbrev pub Turns : Turn → (old new : Machine) → Type 0
 Turns turn.More old new = IsGoing new × (new.state.fuel < old.state.fuel)
 Turns turn.Ended old new = HasEnded new
 
--- one expression began, or the block has none
-abbrev pub HasBegun : Turn → (old new : Machine) → Type 0
-HasBegun turn.More old new = new.state.begun ≡ old.state.begun + 1
-HasBegun turn.Ended old new = (new.state.begun ≡ old.state.begun + 1) ⊎ ((new.state.begun ≡ old.state.begun) × (old.hand ≡ hands.Gives))
+-- expressions began, each with a unit of fuel but one that stopped for want of it; or the block has none
+abbrev pub HasBegun : (far : Bool) → Turn → (old new : Machine) → Type 0
+HasBegun far turn.More old new = HasCounted far old.state new.state
+HasBegun far turn.Ended old new = HasCounted far old.state new.state ⊎ ((new.state.begun ≡ old.state.begun) × (old.hand ≡ hands.Gives))

@@ -1,5 +1,5 @@
 -- What a step of the machine comes to.
-use Rattle.std.specs.Prelude.{◌≡◌, ℕ, suc, ◌+◌, ◌<◌, ◌≤◌, ◌⊎◌, List, ◌∷◌, length, take, reverse, Option, Some, None, IfSome}
+use Rattle.std.specs.Prelude.{◌≡◌, ℕ, suc, Bool, true, false, ◌+◌, ◌<◌, ◌≤◌, ◌⊎◌, List, ◌∷◌, length, take, reverse, Option, Some, None, IfSome}
 use Rattle.std.specs.List.{AllByRecursion}
 use Rattle.hb_tree.specs.Table.{Table}
 use Rattle.hb_tree.specs.TreeAt.{tree_at, IsExprAt, IsBlockAt}
@@ -96,10 +96,19 @@ abbrev pub HasNoFrame : Option Cont → Type 0
 HasNoFrame (Some cont.Frame) = ⊥
 HasNoFrame _ = Unit {0}
 
--- one unit of fuel was taken, or the script stops where there was none
-abbrev pub IsFed : Hand → (old new : ℕ) → Type 0
-IsFed hands.Stops old new = (old ≡ new + 1) ⊎ ((old ≡ 0) × (new ≡ 0))
-IsFed _ old new = old ≡ new + 1
+-- each expression that began took a unit of fuel
+abbrev pub TakesFuel : (old new : State) → Type 0
+TakesFuel old new = new.begun + new.fuel ≡ old.begun + old.fuel
+
+-- fuel was taken, or the script stops where there was none
+abbrev pub IsFed : Hand → (old new : State) → Type 0
+IsFed hands.Stops old new = TakesFuel old new ⊎ ((old.fuel ≡ 0) × (new.fuel ≡ 0))
+IsFed _ old new = TakesFuel old new
+
+-- one expression began; or some did, where that is allowed
+abbrev pub HasCounted : (far : Bool) → (old new : State) → Type 0
+HasCounted true old new = old.begun < new.begun
+HasCounted false old new = new.begun ≡ old.begun + 1
 
 -- no call was made
 pub record SameCalls (old new : State) : Type 0 where

@@ -44,7 +44,7 @@ pub(crate) fn begin(
     requires base { state.old.base ≤ length state.old.vars.items }
     ensures started { IfOk result (Started prog.now state.old state.new conts.old.items conts.new.items) }
     ensures begun { state.new.begun ≡ state.old.begun + 1 }
-    ensures fuel { IfOk result (λ hand. IsFed hand state.old.fuel state.new.fuel) }
+    ensures fuel { IfOk result (λ hand. IsFed hand state.old state.new) }
     ensures calls { SameCalls state.old state.new }
     ensures cache { state.new.cache ≡ state.old.cache }
     ensures known { AreKnown prog.now state.old → OnOk result (AreKnown prog.now state.new) }

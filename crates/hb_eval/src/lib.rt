@@ -1,6 +1,7 @@
 //! What a program does: its values, its stops, and what it prints.
 #![tactic(auto)]
 
+mod ahead;
 pub mod arguments;
 mod begin;
 mod blocks;
@@ -9,6 +10,7 @@ pub mod cont;
 pub mod framed;
 mod frames;
 pub mod laws;
+mod leap;
 mod leaving;
 pub mod machine;
 mod methods;
@@ -16,6 +18,7 @@ mod moves;
 mod named;
 pub mod noting;
 pub mod operators;
+pub mod pace;
 pub mod printed;
 pub mod script_run;
 pub mod spelling;

@@ -1,6 +1,6 @@
 //! A machine: the run of a script between two of its beginnings.
 
-ghost use Rattle.std.specs.Prelude.{◌≡◌, ◌+◌, ◌<◌, ◌≤◌, ◌++◌, [], ℕ, List, length, IfOk, OnOk, OnErr, true, false, is_some};
+ghost use Rattle.std.specs.Prelude.{◌≡◌, ◌+◌, ◌<◌, ◌≤◌, ◌++◌, [], ℕ, List, length, IfOk, OnOk, OnErr, Bool, true, false, is_some};
 ghost use mathlib.Core.List.{IsPrefix};
 ghost use Rattle.hb_types.specs.declared.ids.CallerId.{CallerId};
 ghost use Rattle.hb_tree.specs.Table.{Table};
@@ -29,9 +29,11 @@ use crate::blocks::items;
 use crate::cont::Cont;
 use crate::framed::Framed;
 use crate::frames::pass;
+use crate::leap::leap;
 use crate::leaving::leave_all;
 use crate::moves::take;
 use crate::noting::{Begun, Lent, Noting};
+use crate::pace::Pace;
 use crate::script_run::ScriptRun;
 use crate::state::{Hand, State};
 use crate::stop::{Outcome, Stop};
@@ -277,12 +279,12 @@ impl Machine {
         Ok(())
     }
 
-    // What begins next begins.
+    // What begins next begins alone.
     #[inline(always)]
-    fn begin_one(&mut self, alloc: Global, prog: &Program) -> Result<(), AllocError>
+    fn begin_alone(&mut self, alloc: Global, prog: &Program) -> Result<(), AllocError>
         requires fine { IsFineMachine prog.now self.old }
         requires begins { self.old.hand ≡ hands.Begins }
-        ensures begins { (c : ℕ) (known asked : List Name) (log : List Entry) → OnOk result (Begins prog.now c known known asked asked log log self.old self.new) }
+        ensures begins { (far : Bool) (c : ℕ) (known asked : List Name) (log : List Entry) → OnOk result (Begins far prog.now c known known asked asked log log self.old self.new) }
         ensures calls { SameCalls self.old.state self.new.state }
         ensures frames { self.new.frames ≡ self.old.frames }
         ensures caller { self.new.caller ≡ self.old.caller }
@@ -292,9 +294,47 @@ impl Machine {
         Ok(())
     }
 
-    // One beginning, and what follows.
+    // What begins next begins together with what is read of it.
     #[inline(always)]
-    fn begin_next<D: Desk, N: Names>(
+    fn begin_far(&mut self, alloc: Global, prog: &Program) -> Result<(), AllocError>
+        requires fine { IsFineMachine prog.now self.old }
+        requires begins { self.old.hand ≡ hands.Begins }
+        ensures begins { (c : ℕ) (known asked : List Name) (log : List Entry) → OnOk result (Begins true prog.now c known known asked asked log log self.old self.new) }
+        ensures calls { SameCalls self.old.state self.new.state }
+        ensures frames { self.new.frames ≡ self.old.frames }
+        ensures caller { self.new.caller ≡ self.old.caller }
+        ensures journal { self.new.journal ≡ self.old.journal }
+    {
+        match leap(prog, &mut self.state, &mut self.conts)? {
+            Some(hand) => {
+                self.hand = hand;
+                Ok(())
+            }
+            None => self.begin_alone(alloc, prog),
+        }
+    }
+
+    // What begins next begins, as the pace has it.
+    #[inline(always)]
+    fn begin_one<P: Pace>(&mut self, alloc: Global, prog: &Program) -> Result<(), AllocError>
+        requires fine { IsFineMachine prog.now self.old }
+        requires begins { self.old.hand ≡ hands.Begins }
+        ensures begins { (c : ℕ) (known asked : List Name) (log : List Entry) → OnOk result (Begins P.far prog.now c known known asked asked log log self.old self.new) }
+        ensures calls { SameCalls self.old.state self.new.state }
+        ensures frames { self.new.frames ≡ self.old.frames }
+        ensures caller { self.new.caller ≡ self.old.caller }
+        ensures journal { self.new.journal ≡ self.old.journal }
+    {
+        if P::is_far() {
+            self.begin_far(alloc, prog)
+        } else {
+            self.begin_alone(alloc, prog)
+        }
+    }
+
+    // What begins at once, and what follows.
+    #[inline(always)]
+    fn begin_next<P: Pace, D: Desk, N: Names>(
         &mut self,
         alloc: Global,
         prog: &Program,
@@ -306,7 +346,7 @@ impl Machine {
         requires holding { Holding (D.fixed desk.old).caller (self.old.state.made + 1) (frames_of self.old.frames.items) (D.front desk.old) }
         requires cache { IsTrueCache prog.now (N.known names.old) (N.asked names.old) (D.fixed desk.old).caller (D.front desk.old) self.old.state.cache }
         requires begins { self.old.hand ≡ hands.Begins }
-        ensures begins { OnOk result (Begins prog.now (D.fixed desk.old).caller (N.known names.old) (N.known names.new) (N.asked names.old) (N.asked names.new) (D.front desk.old) (D.front desk.new) self.old self.new) }
+        ensures begins { OnOk result (Begins P.far prog.now (D.fixed desk.old).caller (N.known names.old) (N.known names.new) (N.asked names.old) (N.asked names.new) (D.front desk.old) (D.front desk.new) self.old self.new) }
         ensures rest { OnOk result (IsAtRest self.new) }
         ensures holding { Holding (D.fixed desk.old).caller (self.new.state.made + 1) (frames_of self.new.frames.items) (D.front desk.new) }
         ensures stays { Stays (D.fixed desk.old) (D.fixed desk.new) (D.front desk.old) (D.front desk.new) (N.known names.old) (N.known names.new) }
@@ -315,7 +355,7 @@ impl Machine {
         ensures caller { self.new.caller ≡ self.old.caller }
         ensures journal { self.new.journal ≡ self.old.journal }
     {
-        self.begin_one(alloc, prog)?;
+        self.begin_one::<P>(alloc, prog)?;
         self.settle(alloc, prog, desk, names, share)
     }
 
@@ -370,9 +410,9 @@ impl Machine {
         }
     }
 
-    // One beginning, and what follows, where the block has an expression.
+    // What begins at once, and what follows, where the block has an expression.
     #[inline(always)]
-    fn run<D: Desk, N: Names>(
+    fn run<P: Pace, D: Desk, N: Names>(
         &mut self,
         alloc: Global,
         prog: &Program,
@@ -386,7 +426,7 @@ impl Machine {
         requires cache { IsTrueCache prog.now (N.known names.old) (N.asked names.old) (D.fixed desk.old).caller (D.front desk.old) self.old.state.cache }
         ensures advances { OnOk result (Advances prog.now (D.fixed desk.old).caller (N.known names.old) (N.known names.new) (N.asked names.old) (N.asked names.new) (D.front desk.old) (D.front desk.new) self.old self.new) }
         ensures turns { IfOk result (λ turn. Turns turn self.old self.new) }
-        ensures begun { IfOk result (λ turn. HasBegun turn self.old self.new) }
+        ensures begun { IfOk result (λ turn. HasBegun P.far turn self.old self.new) }
         ensures quiet { OnOk result (self.new.state.begun ≡ self.old.state.begun → D.front desk.new ≡ D.front desk.old) }
         ensures holding { Holding (D.fixed desk.old).caller (self.new.state.made + 1) (frames_of self.new.frames.items) (D.front desk.new) }
         ensures stays { Stays (D.fixed desk.old) (D.fixed desk.new) (D.front desk.old) (D.front desk.new) (N.known names.old) (N.known names.new) }
@@ -400,12 +440,12 @@ impl Machine {
             Hand::Begins => {}
             _ => return Ok(Turn::Ended),
         }
-        self.begin_next(alloc, prog, desk, names, share)?;
+        self.begin_next::<P, D, N>(alloc, prog, desk, names, share)?;
         Ok(self.turn())
     }
 
     // The same, and what its caller does meanwhile.
-    fn run_noting<B: Begun, D: Desk, N: Names>(
+    fn run_noting<B: Begun, P: Pace, D: Desk, N: Names>(
         &mut self,
         alloc: Global,
         prog: &Program,
@@ -422,7 +462,7 @@ impl Machine {
         requires begun { B.before ≡ entries self.old.caller (acts (D.fixed desk.old).caller (D.front desk.old)) }
         ensures advances { OnOk result (Advances prog.now (D.fixed desk.old).caller (N.known names.old) (N.known names.new) (N.asked names.old) (N.asked names.new) (D.front desk.old) (D.front desk.new) self.old self.new) }
         ensures turns { IfOk result (λ turn. Turns turn self.old self.new) }
-        ensures begun { IfOk result (λ turn. HasBegun turn self.old self.new) }
+        ensures begun { IfOk result (λ turn. HasBegun P.far turn self.old self.new) }
         ensures quiet { OnOk result (self.new.state.begun ≡ self.old.state.begun → D.front desk.new ≡ D.front desk.old) }
         ensures holding { Holding (D.fixed desk.old).caller (self.new.state.made + 1) (frames_of self.new.frames.items) (D.front desk.new) }
         ensures stays { Stays (D.fixed desk.old) (D.fixed desk.new) (D.front desk.old) (D.front desk.new) (N.known names.old) (N.known names.new) }
@@ -439,7 +479,7 @@ impl Machine {
             missed: false,
             begun: PhantomData,
         };
-        let ended = self.run(alloc, prog, &mut noting, names, share);
+        let ended = self.run::<P, Noting<Lent<D>, B>, N>(alloc, prog, &mut noting, names, share);
         let Noting {
             desk: lent,
             caller: _,
@@ -473,7 +513,7 @@ impl Machine {
     // The same as `run`, where the journal is kept.
     #[cold]
     #[inline(never)]
-    fn run_with_journal<D: Desk, N: Names>(
+    fn run_with_journal<P: Pace, D: Desk, N: Names>(
         &mut self,
         alloc: Global,
         prog: &Program,
@@ -487,7 +527,7 @@ impl Machine {
         requires cache { IsTrueCache prog.now (N.known names.old) (N.asked names.old) (D.fixed desk.old).caller (D.front desk.old) self.old.state.cache }
         ensures advances { OnOk result (Advances prog.now (D.fixed desk.old).caller (N.known names.old) (N.known names.new) (N.asked names.old) (N.asked names.new) (D.front desk.old) (D.front desk.new) self.old self.new) }
         ensures turns { IfOk result (λ turn. Turns turn self.old self.new) }
-        ensures begun { IfOk result (λ turn. HasBegun turn self.old self.new) }
+        ensures begun { IfOk result (λ turn. HasBegun P.far turn self.old self.new) }
         ensures quiet { OnOk result (self.new.state.begun ≡ self.old.state.begun → D.front desk.new ≡ D.front desk.old) }
         ensures holding { Holding (D.fixed desk.old).caller (self.new.state.made + 1) (frames_of self.new.frames.items) (D.front desk.new) }
         ensures stays { Stays (D.fixed desk.old) (D.fixed desk.new) (D.front desk.old) (D.front desk.new) (N.known names.old) (N.known names.new) }
@@ -498,14 +538,14 @@ impl Machine {
         ensures notes { OnOk result (NotesOn (D.fixed desk.old).caller (D.front desk.old) (D.front desk.new) self.old self.new) }
     {
         let mut notes = Vec::new(alloc);
-        let turn = self.run_noting::<Brand, D, N>(alloc, prog, desk, names, share, &mut notes)?;
+        let turn = self.run_noting::<Brand, P, D, N>(alloc, prog, desk, names, share, &mut notes)?;
         self.note(notes)?;
         Ok(turn)
     }
 
     // The same, with a journal or without.
     #[inline(always)]
-    fn run_kept<D: Desk, N: Names>(
+    fn run_kept<P: Pace, D: Desk, N: Names>(
         &mut self,
         alloc: Global,
         prog: &Program,
@@ -519,7 +559,7 @@ impl Machine {
         requires cache { IsTrueCache prog.now (N.known names.old) (N.asked names.old) (D.fixed desk.old).caller (D.front desk.old) self.old.state.cache }
         ensures advances { OnOk result (Advances prog.now (D.fixed desk.old).caller (N.known names.old) (N.known names.new) (N.asked names.old) (N.asked names.new) (D.front desk.old) (D.front desk.new) self.old self.new) }
         ensures turns { IfOk result (λ turn. Turns turn self.old self.new) }
-        ensures begun { IfOk result (λ turn. HasBegun turn self.old self.new) }
+        ensures begun { IfOk result (λ turn. HasBegun P.far turn self.old self.new) }
         ensures quiet { OnOk result (self.new.state.begun ≡ self.old.state.begun → D.front desk.new ≡ D.front desk.old) }
         ensures holding { Holding (D.fixed desk.old).caller (self.new.state.made + 1) (frames_of self.new.frames.items) (D.front desk.new) }
         ensures stays { Stays (D.fixed desk.old) (D.fixed desk.new) (D.front desk.old) (D.front desk.new) (N.known names.old) (N.known names.new) }
@@ -530,13 +570,13 @@ impl Machine {
         ensures notes { OnOk result (NotesOn (D.fixed desk.old).caller (D.front desk.old) (D.front desk.new) self.old self.new) }
     {
         match &self.journal {
-            None => self.run(alloc, prog, desk, names, share),
-            Some(_) => self.run_with_journal(alloc, prog, desk, names, share),
+            None => self.run::<P, D, N>(alloc, prog, desk, names, share),
+            Some(_) => self.run_with_journal::<P, D, N>(alloc, prog, desk, names, share),
         }
     }
 
-    /// One beginning, and what follows from it up to the next one or to the end. A script without an expression ends at once. A check that a call makes is kept, and the share gets a copy while it collects any.
-    pub fn advance<D: Desk, N: Names>(
+    /// One beginning, or with a pace that goes far some at once, and what follows from the last up to the next one or to the end. All but the last ask no table. A script without an expression ends at once. A check that a call makes is kept, and the share gets a copy while it collects any.
+    pub fn advance<P: Pace, D: Desk, N: Names>(
         &mut self,
         alloc: Global,
         prog: &Program,
@@ -552,7 +592,7 @@ impl Machine {
         ensures stands { OnOk result ((block steps : ℕ) (done : List (ℕ × Act)) → StandsFor prog.now (N.known names.old) block steps done self.old
             → (more : List Act) × (acts (D.fixed desk.old).caller (D.front desk.new) ≡ acts (D.fixed desk.old).caller (D.front desk.old) ++ more) × StandsFor prog.now (N.known names.new) block steps (done ++ tagged self.new.state.begun more) self.new) }
         ensures turn { IfOk result (λ turn. Turns turn self.old self.new) }
-        ensures begun { IfOk result (λ turn. HasBegun turn self.old self.new) }
+        ensures begun { IfOk result (λ turn. HasBegun P.far turn self.old self.new) }
         ensures quiet { OnOk result (self.new.state.begun ≡ self.old.state.begun → D.front desk.new ≡ D.front desk.old) }
         ensures holding { OnOk result (Holding (D.fixed desk.old).caller (self.new.state.made + 1) (frames_of self.new.frames.items) (D.front desk.new)) }
         ensures own { OnOk result (KeepsChecks prog.now (D.fixed desk.old).caller (N.known names.old) (N.known names.new) (N.asked names.old) (N.asked names.new) (D.front desk.old) (D.front desk.new) self.old.state.cache self.new.state.cache) }
@@ -567,7 +607,7 @@ impl Machine {
         ensures caller { self.new.caller ≡ self.old.caller }
         ensures keeps { keeps self.new ≡ keeps self.old }
     {
-        match self.run_kept(alloc, prog, desk, names, share) {
+        match self.run_kept::<P, D, N>(alloc, prog, desk, names, share) {
             Ok(turn) => Ok(turn),
             Err(error) => {
                 leave_all(desk, &mut self.frames);
@@ -578,7 +618,7 @@ impl Machine {
 
     /// The same as `advance`, for a machine that keeps no journal. A program that asks for none has no code that keeps one, and its steps are the faster for it.
     #[inline(always)]
-    pub fn advance_unnoted<D: Desk, N: Names>(
+    pub fn advance_unnoted<P: Pace, D: Desk, N: Names>(
         &mut self,
         alloc: Global,
         prog: &Program,
@@ -595,7 +635,7 @@ impl Machine {
         ensures stands { OnOk result ((block steps : ℕ) (done : List (ℕ × Act)) → StandsFor prog.now (N.known names.old) block steps done self.old
             → (more : List Act) × (acts (D.fixed desk.old).caller (D.front desk.new) ≡ acts (D.fixed desk.old).caller (D.front desk.old) ++ more) × StandsFor prog.now (N.known names.new) block steps (done ++ tagged self.new.state.begun more) self.new) }
         ensures turn { IfOk result (λ turn. Turns turn self.old self.new) }
-        ensures begun { IfOk result (λ turn. HasBegun turn self.old self.new) }
+        ensures begun { IfOk result (λ turn. HasBegun P.far turn self.old self.new) }
         ensures quiet { OnOk result (self.new.state.begun ≡ self.old.state.begun → D.front desk.new ≡ D.front desk.old) }
         ensures holding { OnOk result (Holding (D.fixed desk.old).caller (self.new.state.made + 1) (frames_of self.new.frames.items) (D.front desk.new)) }
         ensures own { OnOk result (KeepsChecks prog.now (D.fixed desk.old).caller (N.known names.old) (N.known names.new) (N.asked names.old) (N.asked names.new) (D.front desk.old) (D.front desk.new) self.old.state.cache self.new.state.cache) }
@@ -608,7 +648,7 @@ impl Machine {
         ensures caller { self.new.caller ≡ self.old.caller }
         ensures keeps { keeps self.new ≡ keeps self.old }
     {
-        match self.run(alloc, prog, desk, names, share) {
+        match self.run::<P, D, N>(alloc, prog, desk, names, share) {
             Ok(turn) => Ok(turn),
             Err(error) => {
                 leave_all(desk, &mut self.frames);

@@ -10,7 +10,7 @@ pub returns-clause-begins : goal.returns-clause-begins
 returns-clause-begins g c =
     let t = c.args.prog.now in
     let first = c.in_ok-begin_one.ensures.begins _ _ _ _ in
-    on_ok_map c.settle.result (λ (h : Carries t (g.D.Desk.fixed c.args.desk.now).caller _ _ _ _ _ _ c.begin_one.new.self c.settle.new.self). begins_on t _ _ _ _ _ _ _ _ _ _ c.args.self.now c.begin_one.new.self c.settle.new.self c.settle.ensures.stays.named first h) c.settle.ensures.carries
+    on_ok_map c.settle.result (λ (h : Carries t (g.D.Desk.fixed c.args.desk.now).caller _ _ _ _ _ _ c.begin_one.new.self c.settle.new.self). begins_on g.P.Pace.far t _ _ _ _ _ _ _ _ _ _ c.args.self.now c.begin_one.new.self c.settle.new.self c.settle.ensures.stays.named first h) c.settle.ensures.carries
 
 pub returns-clause-shares : goal.returns-clause-shares
 returns-clause-shares g c =

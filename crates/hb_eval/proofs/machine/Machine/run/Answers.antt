@@ -1,5 +1,5 @@
 use Rattle.std.proofs.Common.{arith, inr, refl}
-use Rattle.hb_eval.proofs.AdvanceLemmas.{begun_advances, none_begun, opened_advances, rest_last}
+use Rattle.hb_eval.proofs.AdvanceLemmas.{begun_advances, counted_some, none_begun, opened_advances, rest_last}
 use Rattle.hb_eval.proofs.GatheringLemmas.{shares_itself}
 use Rattle.hb_eval.proofs.StayingLemmas.{stays_itself}
 use Rattle.hb_eval.proofs.machine.Machine.run.Goals as goal
@@ -23,7 +23,7 @@ returns-in_default g c =
     }
 
 pub returns-clause-advances : goal.returns-clause-advances
-returns-clause-advances g c = begun_advances c.args.prog.now _ _ _ _ _ _ _ _ _ _ c.in_ok-open.ensures.opens c.in_ok-begin_next.ensures.begins
+returns-clause-advances g c = begun_advances g.P.Pace.far c.args.prog.now _ _ _ _ _ _ _ _ _ _ c.in_ok-open.ensures.opens c.in_ok-begin_next.ensures.begins
 
 pub returns-clause-quiet : goal.returns-clause-quiet
-returns-clause-quiet g c same = absurd (let a = c.in_ok-open.ensures.opens.steady.begun in let b = c.in_ok-begin_next.ensures.begins.begun in omega (arith, a, b, same))
+returns-clause-quiet g c same = absurd (let a = c.in_ok-open.ensures.opens.steady.begun in let b = counted_some g.P.Pace.far _ _ c.in_ok-begin_next.ensures.begins.begun in omega (arith, a, b, same))
