@@ -21,6 +21,23 @@ abbrev Comes : Table → Result Value Stop → Type 0
 Comes t (Ok v) = IsKnown t v
 Comes t (Err e) = Unit {0}
 
+int_known : (t : Table) (n : ℤ) → Comes t (int_of n)
+int_known t n = go (is_int n)
+  where
+    go : (fits : Bool) → Comes t (if fits then Ok (value.Int n) else Err stop.Overflow)
+    go true = tt
+    go false = tt
+
+-- what an operator makes of two numbers
+operated_known : (t : Table) (o : Op) (x y : ℤ) → Comes t (operate o (value.Int x) (value.Int y))
+operated_known t op.Add x y = int_known t (x +ℤ y)
+operated_known t op.Sub x y = int_known t (x -ℤ y)
+operated_known t op.Mul x y = int_known t (x *ℤ y)
+operated_known t _ x y = tt
+
+pub number_known : (t : Table) (o : Op) (x y : ℤ) (v : Value) → Ok v ≡ operate o (value.Int x) (value.Int y) → IsKnown t v
+number_known t o x y v e = subst (Comes t) (sym e) (operated_known t o x y)
+
 bind_known : (t : Table) (bs : Bindings) (x : ℕ) (v : Value) → AllByRecursion (λ b. IsKnown t b.1) bs → IsKnown t v → AllByRecursion (λ b. IsKnown t b.1) (bind bs x v)
 bind_known t [] x v all known = (known, tt)
 bind_known t (b ∷ bs) x v all known = go (nat_eq b.0.0 x) (bind_known t bs x v all.1 known)

@@ -7,7 +7,6 @@ ghost use Rattle.hb_tree.specs.TreeAt.{tree_at};
 ghost use Rattle.hb_eval.specs.declared.value.Value.TheVariants.{Bool, Int};
 ghost use Rattle.hb_eval.specs.Ahead.{ComesAtOnce, IsOperator};
 ghost use Rattle.hb_eval.specs.State.{value_at};
-ghost use Rattle.hb_eval.specs.Values.{IsKnown};
 
 use crate::operators::on_ints;
 use crate::value::Value;
@@ -60,9 +59,9 @@ pub(crate) fn leaf(prog: &Program, vars: &[(NameId, Value)], id: NodeId) -> Opti
     }
 }
 
-/// What an operator makes of two such numbers, where it does not stop. Three expressions begin.
+// What an operator makes of two such numbers, where it does not stop. Three expressions begin.
 #[inline(always)]
-pub(crate) fn operator(
+fn operator(
     prog: &Program,
     vars: &[(NameId, Value)],
     op: Op,
@@ -71,8 +70,7 @@ pub(crate) fn operator(
 ) -> Option<Value>
     requires left { a.0 < length prog.now.nodes }
     requires right { b.0 < length prog.now.nodes }
-    ensures comes { IfSome result (λ value. (id : ℕ) → IsOperator prog.now id op a b → ComesAtOnce prog.now vars.now id value 3) }
-    ensures known { IfSome result (IsKnown prog.now) }
+    ensures { IfSome result (λ value. (id : ℕ) → IsOperator prog.now id op a b → ComesAtOnce prog.now vars.now id value 3) }
 {
     match (leaf(prog, vars, a), leaf(prog, vars, b)) {
         (Some(left), Some(right)) => match on_ints(op, left, right) {

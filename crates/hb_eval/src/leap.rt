@@ -8,10 +8,11 @@ ghost use Rattle.hb_tree.specs.Tree.{TAssign, TIf, TWhile};
 ghost use Rattle.hb_eval.specs.Ahead.{HasLeapt, IsOperator, behind};
 ghost use Rattle.hb_eval.specs.Steps.{SameCalls};
 
-use crate::ahead::{condition, leaf, number, operator, variables_from};
+use crate::ahead::{condition, leaf, number, variables_from};
 use crate::blocks::{choose, test};
 use crate::cont::Cont;
 use crate::moves::{in_hand, take};
+use crate::operators::on_ints;
 use crate::state::{Hand, State};
 use crate::steps::{assign, left};
 use crate::value::Value;
@@ -32,7 +33,7 @@ fn pass(state: &mut State, begins: u32, value: Value)
     state.acc = value;
 }
 
-// An operator whose operands are both read, or the left one alone.
+// An operator whose operands are both read, or the left one alone: then the right one begins next.
 #[inline(always)]
 fn leap_operator(
     prog: &Program,
@@ -51,44 +52,26 @@ fn leap_operator(
     ensures calls { SameCalls state.old state.new }
     ensures cache { state.new.cache ≡ state.old.cache }
 {
-    let vars = variables_from(&state.vars, state.base);
     if state.fuel < 3 {
         return Ok(None);
     }
-    if let Some(value) = operator(prog, vars, op, a, b) {
-        pass(state, 3, value);
-        return Ok(Some(take(conts, in_hand())?));
-    }
-    leap_left(prog, op, a, b, state, conts)
-}
-
-// The left operand is read, and the right one begins next.
-#[inline(always)]
-fn leap_left(
-    prog: &Program,
-    op: Op,
-    a: NodeId,
-    b: NodeId,
-    state: &mut State,
-    conts: &mut Vec<Cont>,
-) -> Result<Option<Hand>, AllocError>
-    requires operator { IsOperator prog.now state.old.at.0 op a b }
-    requires left { IsExprAt prog.now a.0 }
-    requires right { IsExprAt prog.now b.0 }
-    requires base { state.old.base ≤ length state.old.vars.items }
-    requires time { state.old.begun + state.old.fuel < 2 ^ 32 }
-    requires fuel { 2 ≤ state.old.fuel }
-    ensures leapt { IfOk result (HasLeapt prog.now state.old state.new conts.old conts.new) }
-    ensures calls { SameCalls state.old state.new }
-    ensures cache { state.new.cache ≡ state.old.cache }
-{
     let id = state.at;
-    match leaf(prog, variables_from(&state.vars, state.base), a) {
-        Some(number) => {
-            pass(state, 2, Value::Int(number));
-            Ok(Some(take(conts, left(prog, id, op, b, state)?)?))
-        }
+    let vars = variables_from(&state.vars, state.base);
+    match leaf(prog, vars, a) {
         None => Ok(None),
+        Some(first) => match leaf(prog, vars, b) {
+            None => {
+                pass(state, 2, Value::Int(first));
+                Ok(Some(take(conts, left(prog, id, op, b, state)?)?))
+            }
+            Some(second) => match on_ints(op, first, second) {
+                Err(_) => Ok(None),
+                Ok(value) => {
+                    pass(state, 3, value);
+                    Ok(Some(take(conts, in_hand())?))
+                }
+            },
+        },
     }
 }
 
