@@ -1,12 +1,11 @@
 -- What is read of an expression before it begins, and what a leap comes to.
-use Rattle.std.proofs.Common.{◌≡◌, ℕ, ◌+◌, ◌-◌, ◌<◌, ◌≤◌, ◌≢◌, List, take, drop, reverse, length, Option, Some, None, refl, sym, ap, ◌∙◌, subst, arith}
-use Rattle.std.specs.Prelude.{ℤ, Result, Ok, IfSome}
-use Rattle.hb_types.specs.declared.{ids.NodeId.NodeId, ids.NameId.NameId}
+use Rattle.std.proofs.Common.{◌≡◌, ℕ, ◌+◌, ◌-◌, ◌<◌, ◌≤◌, List, take, drop, reverse, Option, Some, None, refl, sym, ap, ◌∙◌, subst, arith}
+use Rattle.std.specs.Prelude.{ℤ, Ok, IfSome}
+use Rattle.hb_types.specs.declared.{ids.NodeId.NodeId}
 use Rattle.hb_tree.specs.{Table.Table, TreeAt.tree_at}
-use Rattle.hb_tree.specs.Tree.{Tree, TInt, TVar, TBinary}
+use Rattle.hb_tree.specs.Tree.{TInt, TVar}
 use Rattle.hb_tree.specs.declared.node.Op.{Op}
-use Rattle.hb_tables.specs.declared.entry.Act.{Act}
-use Rattle.hb_eval.specs.declared.{value.Value.Value, stop.Stop.Stop, cont.Cont.Cont, state.State.State, state.Hand.Hand, state.Move.Move}
+use Rattle.hb_eval.specs.declared.{value.Value.Value, cont.Cont.Cont, state.State.State, state.Hand.Hand, state.Move.Move}
 use Rattle.hb_eval.specs.declared.value.Value.TheVariants as value
 use Rattle.hb_eval.specs.declared.state.Hand.TheVariants as hands
 use Rattle.hb_eval.specs.declared.cont.Cont.TheVariants as cont

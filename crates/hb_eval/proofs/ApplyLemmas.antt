@@ -14,7 +14,7 @@ use Rattle.hb_tree.specs.TreeAt.{tree_at}
 use Rattle.hb_names.specs.Names.{Name}
 use Rattle.hb_tables.specs.declared.entry.Entry.{Entry}
 use Rattle.hb_tables.specs.declared.entry.Act.{Act}
-use Rattle.hb_tables.specs.declared.entry.Act.TheVariants.{Hold, Free, Retype, Busy, WornType, Define, WornDef, Call}
+use Rattle.hb_tables.specs.declared.entry.Act.TheVariants.{Call}
 use Rattle.hb_tables.specs.declared.entry.By.{By}
 use Rattle.hb_tables.specs.declared.entry.By.TheVariants as by
 use Rattle.hb_call.specs.Growth.{Grown}

@@ -14,7 +14,7 @@ use Rattle.hb_names.specs.declared.names.TheConstants.{NAMES_MAX}
 use Rattle.hb_names.specs.Names.{Name, place}
 use Rattle.hb_tables.specs.declared.entry.Entry.{Entry}
 use Rattle.hb_tables.specs.declared.entry.Act.{Act}
-use Rattle.hb_tables.specs.declared.entry.Act.TheVariants.{Hold, Free, Retype, Busy, WornType, Define, WornDef, Call}
+use Rattle.hb_tables.specs.declared.entry.Act.TheVariants.{Free}
 use Rattle.hb_tables.specs.declared.entry.ArgKinds.{ArgKinds}
 use Rattle.hb_tables.specs.declared.entry.Verdict.{Verdict}
 use Rattle.hb_tables.specs.declared.entry.Verdict.TheVariants as verdict
@@ -28,7 +28,6 @@ use Rattle.hb_tables.specs.Verdicts.{verdict_of}
 use Rattle.hb_call.specs.Held.{frees, stands}
 use Rattle.hb_call.specs.Reading as reading
 use Rattle.hb_call.specs.Reading.{Read, Called, FullAt, freed, refused_at, call_of}
-use Rattle.hb_call.specs.Rules.{IsRightWay}
 use Rattle.hb_call.specs.Entering.{Asks, IsDecidedOf}
 use Rattle.hb_eval.specs.declared.value.Value.{Value}
 use Rattle.hb_eval.specs.declared.stop.Stop.{Stop}

@@ -9,7 +9,7 @@ use Rattle.hb_types.specs.declared.ids.TypeSite.{TypeSite}
 use Rattle.hb_types.specs.declared.types.Ty.{Ty}
 use Rattle.hb_tree.specs.Table.{Table}
 use Rattle.hb_tables.specs.declared.entry.Act.{Act}
-use Rattle.hb_tables.specs.declared.entry.Act.TheVariants.{Hold, Free, Retype, Busy, WornType, Define, WornDef, Call}
+use Rattle.hb_tables.specs.declared.entry.Act.TheVariants.{Hold, Free, Call}
 use Rattle.hb_tables.specs.declared.entry.ArgKinds.{ArgKinds}
 use Rattle.hb_tables.specs.declared.entry.Verdict.{Verdict}
 use Rattle.hb_tables.specs.declared.entry.Verdict.TheVariants as verdict

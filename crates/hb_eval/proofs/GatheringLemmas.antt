@@ -1,7 +1,6 @@
 -- What is collected of the checks that a script makes.
-use Rattle.std.proofs.Common.{◌≡◌, ℕ, ◌+◌, List, [], ◌∷◌, ◌++◌, Option, Some, None, Bool, true, false, cond, refl, sym, ap, ◌∙◌, subst, arith, append_assoc, append-nil, eq-eqb, if◌then◌else◌}
+use Rattle.std.proofs.Common.{◌≡◌, ℕ, ◌+◌, List, [], ◌∷◌, ◌++◌, Option, Some, None, Bool, true, false, cond, refl, sym, ap, ◌∙◌, subst, arith, append_assoc, append-nil}
 use Rattle.std.specs.Prelude.{count_by}
-use Rattle.std.specs.Option.{option_map}
 use Rattle.std.proofs.lemmas.List.Sums.{sum_by-cons, sum_by-append}
 use mathlib.Core.List.{IsPrefix}
 use Rattle.hb_types.specs.declared.ids.BodySite.{BodySite}
@@ -16,7 +15,7 @@ use Rattle.hb_names.specs.Names.{Name, place}
 use Rattle.hb_names.proofs.NameLemmas.{place-longer}
 use Rattle.hb_tables.specs.declared.entry.Entry.{Entry}
 use Rattle.hb_tables.specs.declared.entry.Act.{Act}
-use Rattle.hb_tables.specs.declared.entry.Act.TheVariants.{Hold, Free, Retype, Busy, WornType, Define, WornDef, Call}
+use Rattle.hb_tables.specs.declared.entry.Act.TheVariants.{Call}
 use Rattle.hb_tables.specs.declared.entry.ArgKinds.{ArgKinds}
 use Rattle.hb_tables.specs.declared.entry.Verdict.{Verdict}
 use Rattle.hb_tables.specs.declared.entry.Verdict.TheVariants as verdict
@@ -37,8 +36,6 @@ use Rattle.hb_tables.specs.History.{entry}
 use Rattle.hb_tables.specs.Rows.{kinds_of}
 use Rattle.hb_tables.proofs.FrameLemmas.{acts_append}
 use Rattle.hb_cache.specs.declared.kept.Kept.{Kept}
-use Rattle.hb_cache.specs.Cache.{Item, Items, SameItem, SaysSame}
-use Rattle.hb_cache.specs.Kept.{item_of, kept_at}
 use Rattle.hb_call.specs.declared.frame.Frame.{Frame}
 use Rattle.hb_call.specs.declared.frame.Entered.TheVariants as entered
 use Rattle.hb_call.specs.Entering.{Asks, IsDecidedOf}

@@ -1,5 +1,5 @@
 -- What moves keep of the stacks.
-use Rattle.std.proofs.Common.{◌≡◌, ℕ, zero, suc, ◌+◌, ◌-◌, ◌<◌, ◌≤◌, List, [], ◌∷◌, ◌++◌, length, get_or, take, drop, Option, Some, None, refl, sym, ap, ◌∙◌, subst, arith, length-append, Vec, Global}
+use Rattle.std.proofs.Common.{◌≡◌, ℕ, zero, suc, ◌-◌, ◌<◌, ◌≤◌, List, [], ◌∷◌, ◌++◌, length, get_or, take, drop, Option, Some, None, refl, sym, ap, ◌∙◌, subst, arith, length-append, Vec, Global}
 use Rattle.std.specs.{Prelude.reverse, List.AllByRecursion}
 use Rattle.std.proofs.lemmas.List.{length-take-le}
 use Rattle.hb_types.specs.declared.{ids.ClassId.ClassId, ids.NameId.NameId, ids.NodeId.NodeId}
@@ -7,7 +7,7 @@ use Rattle.hb_tree.specs.declared.parts.Body.{Body}
 use Rattle.hb_tree.specs.{Table.Table, TreeAt.tree_at, TreeAt.IsExprAt, Nodes.params_of}
 use Rattle.hb_tree.proofs.Lists.{each_append}
 use Rattle.hb_call.specs.declared.frame.Frame.{Frame}
-use Rattle.hb_eval.specs.declared.{state.Hand.Hand, value.Value.Value, stop.Stop.Stop, cont.Cont.Cont, framed.Framed.Framed, state.State.State, state.Move.Move}
+use Rattle.hb_eval.specs.declared.{state.Hand.Hand, value.Value.Value, cont.Cont.Cont, framed.Framed.Framed, state.State.State, state.Move.Move}
 use Rattle.hb_eval.specs.declared.state.Hand.TheVariants as hands
 use Rattle.hb_eval.specs.declared.cont.Cont.TheVariants as cont
 use Rattle.hb_eval.specs.{Values.IsKnown, Calls.bindings, State.St, State.Answer, Calls.call_in, Machine.World, Turns.Goes}

@@ -7,14 +7,14 @@ use mathlib.Core.Logic.{dite}
 use native.Mathlib.Decide.{ℕ_discrete}
 use Rattle.hb_types.specs.declared.{ids.KeyId.KeyId, ids.CallNo.CallNo}
 use Rattle.hb_names.specs.Names.{Name}
-use Rattle.hb_tables.specs.declared.{entry.By.By, entry.Entry.Entry, entry.Act.Act}
+use Rattle.hb_tables.specs.declared.{entry.By.By, entry.Entry.Entry}
 use Rattle.hb_tree.proofs.Lists.{each_append}
 use Rattle.hb_tables.specs.History.{spot, same_call, times, without, of_caller}
 use Rattle.hb_tables.specs.Frames.{acts}
 use Rattle.hb_tables.specs.Standing.{Stand, standing, count_of}
 use Rattle.hb_tables.proofs.CallLemmas.{length_without, own_without, times_own, times_without}
 use Rattle.hb_tables.proofs.AddingLemmas.{none_without}
-use Rattle.hb_tables.proofs.StandingLemmas.{held_stands, has_part, standing_stays}
+use Rattle.hb_tables.proofs.StandingLemmas.{held_stands}
 use Rattle.hb_call.specs.declared.{frame.Frame.Frame, frame.CallFail.CallFail}
 use Rattle.hb_call.specs.declared.frame.CallFail.TheVariants as fail
 use Rattle.hb_call.specs.declared.frame.Entered.TheVariants as entered

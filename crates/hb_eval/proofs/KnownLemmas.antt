@@ -1,9 +1,9 @@
 -- The classes of objects in hand stay those of the program.
-use Rattle.std.proofs.Common.{◌≡◌, ℕ, zero, suc, List, [], ◌∷◌, ◌++◌, length, take, drop, Option, Some, None, Bool, true, false, nat_eq, sym, subst}
-use Rattle.std.specs.Prelude.{ℤ, ◌+ℤ◌, ◌-ℤ◌, ◌*ℤ◌, int_lt, Result, Ok, Err, if◌then◌else◌, nat_le}
+use Rattle.std.proofs.Common.{◌≡◌, ℕ, zero, suc, List, [], ◌∷◌, ◌++◌, take, drop, Option, Some, None, Bool, true, false, nat_eq, sym, subst}
+use Rattle.std.specs.Prelude.{ℤ, ◌+ℤ◌, ◌-ℤ◌, ◌*ℤ◌, Result, Ok, Err, if◌then◌else◌}
 use Rattle.std.specs.List.{AllByRecursion}
 use Rattle.std.proofs.lemmas.List.{take-append-drop}
-use Rattle.hb_tree.specs.declared.{limits.TheConstants.TEXT_BYTES_MAX, node.Op.Op}
+use Rattle.hb_tree.specs.declared.{node.Op.Op}
 use Rattle.hb_tree.specs.declared.node.Op.TheVariants as op
 use Rattle.hb_tree.specs.Table.{Table}
 use Rattle.hb_tree.proofs.Lists.{each_append}
@@ -11,7 +11,7 @@ use Rattle.hb_eval.specs.declared.{value.Value.Value, stop.Stop.Stop}
 use Rattle.hb_eval.specs.declared.value.Value.TheVariants as value
 use Rattle.hb_eval.specs.declared.stop.Stop.TheVariants as stop
 use Rattle.hb_eval.specs.Values.{IsKnown}
-use Rattle.hb_eval.specs.Operators.{is_int, int_of, text_of, of_ints, of_texts, operate}
+use Rattle.hb_eval.specs.Operators.{is_int, int_of, operate}
 use Rattle.hb_eval.specs.State.{Bindings, value_at, bind}
 
 pub pushed_known : (t : Table) (xs : List Value) (v : Value) → AllByRecursion (IsKnown t) xs → IsKnown t v → AllByRecursion (IsKnown t) (xs ++ v ∷ [])

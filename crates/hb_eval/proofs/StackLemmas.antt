@@ -1,8 +1,8 @@
 -- A stack, the last of it first.
-use Rattle.std.proofs.Common.{◌≡◌, ℕ, suc, ◌+◌, ◌-◌, List, [], ◌∷◌, ◌++◌, length, get_or, take, drop, refl, sym, ap, ◌∙◌, arith}
+use Rattle.std.proofs.Common.{◌≡◌, ℕ, suc, ◌+◌, ◌-◌, List, [], ◌∷◌, ◌++◌, length, take, drop, refl, sym, ap, ◌∙◌, arith}
 use Rattle.std.specs.Prelude.{reverse}
 use Rattle.std.proofs.lemmas.List.{reverse-append, reverse-reverse, take-append-drop, length-drop, length-reverse}
-use Rattle.std.proofs.Math.Seq.{drop-append_seam, take-append_seam, take-length, drop-cons}
+use Rattle.std.proofs.Math.Seq.{drop-append_seam, take-append_seam, take-length}
 use Rattle.hb_eval.specs.declared.{framed.Framed.Framed, state.State.State}
 use Rattle.hb_eval.specs.{State.Bindings, Stacks.views, Stacks.frames_at}
 

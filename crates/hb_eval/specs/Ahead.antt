@@ -6,7 +6,7 @@ use Rattle.hb_tree.specs.{Table.Table, TreeAt.tree_at, Tree.TBinary}
 use Rattle.hb_tree.specs.declared.node.Op.{Op}
 use Rattle.hb_names.specs.Names.{Name}
 use Rattle.hb_eval.specs.declared.{value.Value.Value, cont.Cont.Cont, state.State.State, state.Hand.Hand}
-use Rattle.hb_eval.specs.{State.Bindings, State.St, State.Done, Meaning.Calls, Meaning.ev, Steps.AreKnown, Steps.SameCalls, Steps.Started, Steps.TakesFuel}
+use Rattle.hb_eval.specs.{State.Bindings, State.St, State.Done, Meaning.Calls, Meaning.ev, Steps.AreKnown, Steps.Started, Steps.TakesFuel}
 
 -- Where these are the variables and so much fuel is there, the expression gives this value: so many expressions begin, and nothing else happens.
 abbrev pub ComesAtOnce : Table → Bindings → (id : ℕ) → Value → (begins : ℕ) → Type 0
