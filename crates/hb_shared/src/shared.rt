@@ -13,12 +13,24 @@ use hb_deriv::raw::RawDerivation;
 use hb_types::ids::CallerId;
 use once_cell::race::OnceBox;
 use std::alloc::{AllocError, Global};
+use std::marker::Model;
 
 /// Cells for what the scripts of a run publish: 64 for each caller from 1 to 16, in the order of the callers. Each is set at most once.
 #[derive(Drop)]
 pub struct SharedDerivations {
     cells: Vec<OnceBox<Published>>,
-    ghost wide: { length cells.items ≡ CELLS_MAX },
+}
+
+impl Model for SharedDerivations {
+    ghost use Rattle.std.specs.Prelude.{◌≡◌, List, length};
+    ghost use Rattle.hb_shared.specs.declared.cells.TheConstants.{CELLS_MAX};
+    ghost use Rattle.hb_shared.specs.Cells.{Cell};
+
+    ghost Value = { List Cell };
+
+    ghost view = { λ shared. shared.cells.items };
+
+    ghost invariant = { λ shared. length shared.cells.items ≡ CELLS_MAX };
 }
 
 impl SharedDerivations {
@@ -31,8 +43,8 @@ impl SharedDerivations {
 
     /// Notes that know nothing yet of these cells.
     pub fn notes(&self, alloc: Global) -> Result<Notes, AllocError>
-        ensures notes { IfOk result (λ notes. AreNotesOf self.now.cells.items notes.list.items) }
-        ensures nothing { IfOk result (λ notes. (at : ℕ) → known_at notes.list.items at ≡ None) }
+        ensures notes { IfOk result (λ notes. AreNotesOf self.now notes) }
+        ensures nothing { IfOk result (λ notes. (at : ℕ) → known_at notes at ≡ None) }
     {
         Ok(Notes {
             list: notes_of(alloc, &self.cells)?,
@@ -62,10 +74,10 @@ impl SharedDerivations {
         notes: &mut Notes,
     ) -> Result<Option<u32>, AllocError>
         requires caller { (1 ≤ caller.0) × (caller.0 ≤ 16) }
-        requires notes { AreNotesOf self.now.cells.items notes.old.list.items }
-        ensures notes { AreNotesOf self.now.cells.items notes.new.list.items }
-        ensures kept { KeepKnown notes.old.list.items notes.new.list.items }
-        ensures taken { IfOk result (λ cell. MatchOption cell (IsFull caller notes.new.list.items) (Takes (record { caller = caller; derivation = derivation }) notes.old.list.items notes.new.list.items)) }
+        requires notes { AreNotesOf self.now notes.old }
+        ensures notes { AreNotesOf self.now notes.new }
+        ensures kept { KeepKnown notes.old notes.new }
+        ensures taken { IfOk result (λ cell. MatchOption cell (IsFull caller notes.new) (Takes (record { caller = caller; derivation = derivation }) notes.old notes.new)) }
     {
         let item = Box::new(alloc, Published { caller, derivation })?;
         Ok(offer(&self.cells, caller, item, &mut notes.list))
@@ -87,10 +99,10 @@ impl SharedDerivations {
 
     /// The first that is published at or after the index. What is known is not passed over.
     pub fn next_from_as(&self, index: u32, notes: &mut Notes) -> Option<(u32, &Published)>
-        requires notes { AreNotesOf self.now.cells.items notes.old.list.items }
-        ensures notes { AreNotesOf self.now.cells.items notes.new.list.items }
-        ensures kept { KeepKnown notes.old.list.items notes.new.list.items }
-        ensures found { MatchOption result (KnowsNoneFrom index CELLS_MAX notes.old.list.items) (λ found. Finds index notes.old.list.items notes.new.list.items found.0 found.1.now) }
+        requires notes { AreNotesOf self.now notes.old }
+        ensures notes { AreNotesOf self.now notes.new }
+        ensures kept { KeepKnown notes.old notes.new }
+        ensures found { MatchOption result (KnowsNoneFrom index CELLS_MAX notes.old) (λ found. Finds index notes.old notes.new found.0 found.1.now) }
     {
         search(&self.cells, index, &mut notes.list)
     }
