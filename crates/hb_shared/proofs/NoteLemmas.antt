@@ -1,26 +1,24 @@
 -- What a write of one note changes.
-use Rattle.std.proofs.Common.{◌≡◌, ◌≢◌, ℕ, zero, suc, ◌<◌, ◌==◌, Bool, true, false, List, [], ◌∷◌, length, set, get_or, Option, Some, None, Result, Ok, Err, refl, sym, ap, ◌∙◌, subst, arith}
+use Rattle.std.proofs.Common.{◌≡◌, ◌≢◌, ℕ, zero, suc, ◌+◌, ◌<◌, ◌≤◌, ◌==◌, Bool, true, false, List, [], ◌∷◌, ◌++◌, length, map, set, get_or, Option, Some, None, IfSome, Result, Ok, Err, refl, sym, ap, ◌∙◌, subst, arith, length-append}
 use Rattle.std.specs.Prelude.{slice_get, MatchOption, MatchResult}
-use Rattle.std.proofs.Math.Seq.{map-set_same}
+use Rattle.std.proofs.Math.Seq.{map-set_same, get_or-append_seam}
 use Rattle.std.proofs.lemmas.List.{get_or-map, length-map}
 use Rattle.std.proofs.lemmas.Option.{slice_get-get_or, none-some}
 use Rattle.std.proofs.lemmas.Bool.{eqb-true, eqb-false}
-use Rattle.once_cell.specs.Once.{cell_name, Agrees}
+use Rattle.once_cell.specs.Once.{Agrees}
 use Rattle.once_cell.specs.declared.race.note.Note.{Note}
 use Rattle.hb_shared.specs.declared.cells.Published.{Published}
 use Rattle.hb_shared.specs.Cells.{Cell}
 use Rattle.hb_shared.specs.Notes.{AreNotesOf, cell_of, said_by, known_at, Learns, Puts, Sees, IsTaken}
 
--- as many notes as cells
-pub as_many : (cells : List Cell) (notes : List (Note Published)) → AreNotesOf cells notes → length notes ≡ length cells
-as_many cells notes w = sym (length-map notes cell_of) ∙ ap length w ∙ length-map cells cell_name
+-- as many of the one as of the other
+pub as_many : {X Y : Type 0} (f : X → ℕ) (g : Y → ℕ) (xs : List X) (ys : List Y) → map f xs ≡ map g ys → length xs ≡ length ys
+as_many f g xs ys w = sym (length-map xs f) ∙ ap length w ∙ length-map ys g
 
--- the note at a place is of the cell at that place
-pub same_cell : (cells : List Cell) (notes : List (Note Published)) (at : ℕ) (note : Note Published) (cell : Cell) → AreNotesOf cells notes → at < length cells
-    → get_or notes at note ≡ note → get_or cells at cell ≡ cell → note.cell ≡ cell_name cell
-same_cell cells notes at note cell w inside here there =
-    ap cell_of (sym here) ∙ sym (get_or-map cell_of notes at note 0 (omega (arith, inside, as_many cells notes w)))
-    ∙ ap (λ (names : List ℕ). get_or names at 0) w ∙ get_or-map cell_name cells at cell 0 inside ∙ ap cell_name there
+-- what is at a place of both
+pub same_at : {X Y : Type 0} (f : X → ℕ) (g : Y → ℕ) (xs : List X) (ys : List Y) (at : ℕ) (x : X) (y : Y) → map f xs ≡ map g ys → at < length ys → get_or xs at x ≡ x → get_or ys at y ≡ y → f x ≡ g y
+same_at f g xs ys at x y w inside here there =
+    ap f (sym here) ∙ sym (get_or-map f xs at x 0 (omega (arith, inside, as_many f g xs ys w))) ∙ ap (λ (names : List ℕ). get_or names at 0) w ∙ get_or-map g ys at y 0 inside ∙ ap g there
 
 get-set : {A : Type 0} (l : List A) (i : ℕ) (a : A) → i < length l → slice_get (set l i a) i ≡ Some a
 get-set [] i a w = absurd (omega arith)
@@ -88,3 +86,38 @@ puts value item (Ok a) notes at note new inside here x known m = record {
   kept = known_set notes at new inside ∙ m.0;
 }
 puts value item (Err back) notes at note new inside here x known m = (m, (x, known_set notes at new inside ∙ known))
+
+-- the last of the front stands where the front without it ends
+pub at_end : (front gone others : List (Note Published)) (other : Note Published) → front ++ other ∷ gone ≡ others → (get_or others (length front) other ≡ other) × (length front < length others)
+at_end front gone others other split = (
+  ap (λ (l : List (Note Published)). get_or l (length front) other) (sym split) ∙ get_or-append_seam front other gone other,
+  subst (λ (l : List (Note Published)). length front < length l) split (omega (arith, length-append front (other ∷ gone))),
+)
+
+-- notes of one place are of one cell
+pub pair_cell : (cells : List Cell) (front gone notes others : List (Note Published)) (note other : Note Published) → front ++ other ∷ gone ≡ others → AreNotesOf cells notes → AreNotesOf cells others
+    → get_or notes (length front) note ≡ note → other.cell ≡ note.cell
+pair_cell cells front gone notes others note other split w v here =
+    let end = at_end front gone others other split in
+    sym (same_at cell_of cell_of notes others (length front) note other (w ∙ sym v) end.1 here end.0)
+
+-- where two notes of a place were compared, they know the same
+pub compared : (front gone notes others : List (Note Published)) (note other : Note Published) → front ++ other ∷ gone ≡ others → length notes ≡ length others → get_or notes (length front) note ≡ note
+    → IfSome other.known (Agrees note.known)
+    → ((at : ℕ) (x y : Published) → length front + 1 ≤ at → known_at notes at ≡ Some x → known_at others at ≡ Some y → x ≡ y)
+    → (at : ℕ) (x y : Published) → length front ≤ at → known_at notes at ≡ Some x → known_at others at ≡ Some y → x ≡ y
+compared front gone notes others note other split many here alike later at x y low e h = by (at == length front) refl
+  where
+    there : get_or others (length front) other ≡ other
+    there = (at_end front gone others other split).0
+
+    inside : length front < length others
+    inside = (at_end front gone others other split).1
+
+    by : (b : Bool) → (at == length front) ≡ b → x ≡ y
+    by true same =
+        let is = eqb-true at (length front) same in
+        let mine : note.known ≡ Some x = sym (known_here notes (length front) note (omega (arith, inside, many)) here) ∙ ap (known_at notes) (sym is) ∙ e in
+        let theirs : other.known ≡ Some y = sym (known_here others (length front) other inside there) ∙ ap (known_at others) (sym is) ∙ h in
+        subst (λ (k : Option Published). Agrees k y) mine (subst (λ (k : Option Published). IfSome k (Agrees note.known)) theirs alike)
+    by false other_place = later at x y (omega (arith, low, eqb-false at (length front) other_place)) e h

@@ -30,6 +30,10 @@ IsTaken notes at = (published : Published) × (known_at notes at ≡ Some publis
 abbrev pub KeepKnown : List (Note Published) → List (Note Published) → Type 0
 KeepKnown old new = (at : ℕ) (published : Published) → known_at old at ≡ Some published → known_at new at ≡ Some published
 
+-- where both know what is in a cell, they know the same
+abbrev pub Agree : List (Note Published) → List (Note Published) → Type 0
+Agree notes others = (at : ℕ) (published other : Published) → known_at notes at ≡ Some published → known_at others at ≡ Some other → published ≡ other
+
 -- at most the note of one cell learned something
 pub record Learns (at : ℕ) (old new : List (Note Published)) : Type 0 where
   pub kept : KeepKnown old new
