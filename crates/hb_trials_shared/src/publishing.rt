@@ -1,9 +1,10 @@
 //! What a caller publishes, and all that is found.
 
 ghost use Rattle.std.specs.Prelude.{◌≤◌};
+ghost use Rattle.hb_shared.specs.Notes.{AreNotesOf};
 
 use hb_deriv::raw::RawDerivation;
-use hb_shared::SharedDerivations;
+use hb_shared::{Notes, SharedDerivations};
 use hb_types::ids::{BodySite, CallerId, ClassId, TypeSite};
 use std::alloc::{AllocError, Global};
 
@@ -31,6 +32,26 @@ pub fn publish_many(
         shared.publish(alloc, caller, derivation_of(alloc, body))?;
     }
     Ok(())
+}
+
+/// Publishes derivations of the bodies from one to another, and answers which cells keep them.
+pub fn publish_noted(
+    shared: &SharedDerivations,
+    alloc: Global,
+    caller: CallerId,
+    bodies: (u16, u16),
+    notes: &mut Notes,
+) -> Result<Vec<Option<u32>>, AllocError>
+    requires caller { (1 ≤ caller.0) × (caller.0 ≤ 16) }
+    requires notes { AreNotesOf shared.now notes.old }
+    ensures notes { AreNotesOf shared.now notes.new }
+{
+    let mut kept = Vec::new(alloc);
+    for body in bodies.0..bodies.1 {
+        let derivation = derivation_of(alloc, body);
+        kept.push(shared.publish_as(alloc, caller, derivation, notes)?)?;
+    }
+    Ok(kept)
 }
 
 /// All that is published: in which cell, by whom, and of which body.

@@ -1,6 +1,6 @@
 //! Rows of what is published from one thread.
 
-use crate::publishing::{all_found, derivation_of, publish_many};
+use crate::publishing::{all_found, derivation_of, publish_many, publish_noted};
 use hb_shared::{CELLS_MAX, SharedDerivations};
 use hb_types::ids::CallerId;
 use std::test::Fail;
@@ -25,7 +25,10 @@ fn three_that_are_published_are_found_in_rising_cells(rt: HostRuntime) -> Result
         )?;
     }
     let expected = [(0, 1, 8), (64, 2, 7), (65, 2, 9)];
-    assert_eq!(rt; all_found(&shared, rt.alloc())?.as_slice(), expected.as_slice());
+    assert_eq!(rt;
+        all_found(&shared, rt.alloc())?.as_slice(),
+        expected.as_slice()
+    );
     for index in [66, CELLS_MAX, u32::MAX] {
         assert!(rt; shared.next_from(index).is_none(), "{index}");
     }
@@ -50,15 +53,15 @@ fn the_sixty_fifth_of_a_caller_is_dropped(rt: HostRuntime) -> Result<(), Fail> {
 fn a_cell_is_answered_until_all_are_taken(rt: HostRuntime) -> Result<(), Fail> {
     let shared = SharedDerivations::new(rt.alloc())?;
     let mut notes = shared.notes(rt.alloc())?;
-    for body in 0..66u16 {
-        let derivation = derivation_of(rt.alloc(), body);
-        let cell = shared.publish_as(rt.alloc(), CallerId(3), derivation, &mut notes)?;
+    let kept = publish_noted(&shared, rt.alloc(), CallerId(3), (0, 66), &mut notes)?;
+    assert_eq!(rt; kept.len(), 66);
+    for (body, cell) in kept.iter().enumerate() {
         let expected = if body < 64 {
             Some(128 + body as u32)
         } else {
             None
         };
-        assert_eq!(rt; cell, expected);
+        assert_eq!(rt; *cell, expected);
     }
     let found = shared.next_from_as(130, &mut notes);
     let found = found.map(|(at, published)| (at, published.derivation.body.0));

@@ -1,9 +1,9 @@
 //! Two threads that publish at once.
 
-ghost use Rattle.std.specs.Prelude.{◌≡◌, ◌≤◌, IfOk};
+ghost use Rattle.std.specs.Prelude.{IfOk};
 ghost use Rattle.hb_shared.specs.Notes.{AreNotesOf};
 
-use crate::publishing::{all_found, derivation_of, publish_many};
+use crate::publishing::{all_found, publish_many, publish_noted};
 use hb_shared::{Notes, SharedDerivations};
 use hb_types::ids::CallerId;
 use std::alloc::{AllocError, Global};
@@ -40,15 +40,16 @@ fn callers_in_threads_keep_to_their_cells(rt: HostRuntime) -> Result<(), Fail> {
     Ok(())
 }
 
-// Publishes 40 in a caller's name, and answers what it learned of the cells.
-fn publish_noted(shared: &SharedDerivations, alloc: Global, from: u16) -> Result<Notes, AllocError>
+// Publishes the bodies in a caller's name, and answers what it learned of the cells.
+fn publish_and_note(
+    shared: &SharedDerivations,
+    alloc: Global,
+    bodies: (u16, u16),
+) -> Result<Notes, AllocError>
     ensures { IfOk result (AreNotesOf shared.now) }
 {
     let mut notes = shared.notes(alloc)?;
-    for step in 0..40u16 {
-        let derivation = derivation_of(alloc, from % 1_000 + step);
-        shared.publish_as(alloc, CallerId(9), derivation, &mut notes)?;
-    }
+    publish_noted(shared, alloc, CallerId(9), bodies, &mut notes)?;
     Ok(notes)
 }
 
@@ -62,10 +63,10 @@ fn one_caller<R: Threads + Sync>(
         rt,
         || -> Result<Notes, AllocError>
             ensures { IfOk result (AreNotesOf shared.entry.now) }
-        { publish_noted(shared, alloc, 0) },
+        { publish_and_note(shared, alloc, (0, 40)) },
         || -> Result<Notes, AllocError>
             ensures { IfOk result (AreNotesOf shared.entry.now) }
-        { publish_noted(shared, alloc, 100) },
+        { publish_and_note(shared, alloc, (100, 140)) },
     );
     let (mut one, two) = (one?, two?);
     one.compare(two);
