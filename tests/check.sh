@@ -100,6 +100,8 @@ check_program() {
         part check "scripts by turns" python3 tests/turns.py "$program"
         part check "scripts at once" python3 tests/at_once.py "$program"
         part check "scripts at once with little memory" python3 tests/memory.py "$program"
+        part check "what is refused one at a time" python3 tests/failing.py "$program"
+        part check "hostile texts and bytes" python3 tests/hostile.py "$program"
     fi
 }
 
