@@ -98,8 +98,10 @@ check_program() {
         part check "bundles" python3 tests/bundles.py "$program"
         part check "programs of one script" python3 tests/alone.py "$program"
         part check "scripts by turns" python3 tests/turns.py "$program"
+        part check "scripts round one method" python3 tests/one_key.py "$program"
         part check "scripts at once" python3 tests/at_once.py "$program"
         part check "scripts at once with little memory" python3 tests/memory.py "$program"
+        part check "scripts at once that share what is limited" python3 tests/at_limits.py "$program"
         part check "what is refused one at a time" python3 tests/failing.py "$program"
         part check "hostile texts and bytes" python3 tests/hostile.py "$program"
     fi
