@@ -134,9 +134,9 @@ def main(words, say):
     try:
         put(page(title, svg, told, source, asked.first) if asked.is_page() else svg, asked.output)
     except OSError as error:
-        if isinstance(error, BrokenPipeError):
+        if asked.output in (None, "-"):
             raise
-        say("%s: %s" % (asked.output or "the output", error.strerror))
+        say("%s: %s" % (asked.output, error.strerror))
         return WRITE_FAILED
     return 0
 

@@ -110,6 +110,7 @@ check_program() {
 check_front() {
     part check "hb" python3 tests/front.py
     part check "the streams of hb" python3 tests/streams.py
+    [[ ! -x $program ]] || part check "hb where things go wrong" python3 tests/rough.py "$program"
     part check "the commands of hb" python3 tests/commands.py "$program"
     [[ ! -x $program ]] || part check "the pictures of runs" python3 tests/pictures.py "$program"
     [[ ! -x $program ]] || part check "the page" python3 tests/page.py "$program"
