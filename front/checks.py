@@ -34,6 +34,11 @@ class Derivation:
         self.owner, self.body, self.declared, self.uses, self.steps = owner, body, declared, [], []
 
 
+def is_bundle(out):
+    """Whether this begins as a bundle does."""
+    return bool(LENGTH.match(out))
+
+
 def parts(bundle):
     """The text of a bundle's program, and the text behind it."""
     found = LENGTH.match(bundle)

@@ -28,10 +28,11 @@ def main(words, say):
         return READ_FAILED
     out, status = hb.run(source, [], "derive")
     paint = show.Paint(streams.wants_colours())
-    if status not in (0, STOPPED):
-        hb.write(show.report_shown(hb.lines_of(out)[:-1], name, source, paint))
+    if status not in (0, STOPPED) or not checks.is_bundle(out):
+        hb.show_report(name, source, out, status, [], False, paint)
         return status
     text, behind = checks.parts(out)
+    name = streams.plain(name)
     for number, derivation in enumerate(checks.derivations(behind), 1):
         hb.write([""] * (number > 1) + list(checks.shown(number, derivation, name, text, paint)))
     return status

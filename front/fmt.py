@@ -1,13 +1,10 @@
 """hb fmt: indents a program by its blocks. Only blanks at the fronts and the ends of lines change."""
-import errno
-import os
-import shutil
 import sys
-import tempfile
 
 import blocks
 import command
 import tokens
+import whole
 
 REFUSED, WRONG_WORDS, READ_FAILED, WRITE_FAILED = 1, 2, 4, 5
 STEP = 2
@@ -67,22 +64,6 @@ def depth_of(line, open_ones, goes_on):
     return depth + STEP * (opener not in ("script", "setup")) + STEP * (goes_on and opener != "(")
 
 
-def replace(name, text):
-    """Gives a file a new text, at once or not at all. A link stays one, and the file keeps its mode."""
-    path = os.path.realpath(name)
-    if not os.access(path, os.W_OK):
-        raise PermissionError(errno.EACCES, "it may not be written")
-    descriptor, beside = tempfile.mkstemp(prefix=".hb-", dir=os.path.dirname(path))
-    try:
-        with os.fdopen(descriptor, "wb") as file:
-            file.write(text)
-        shutil.copymode(path, beside)
-        os.replace(beside, path)
-    except BaseException:
-        os.unlink(beside)
-        raise
-
-
 def main(given, say):
     options, names = command.parted(given)
     wrong = [option for option in options if option != "--check"]
@@ -120,7 +101,7 @@ def of_file(name, checks):
         sys.stdout.buffer.write(due)
         return 0, None
     try:
-        replace(name, due)
+        whole.replace(name, due)
     except OSError as error:
         return WRITE_FAILED, " %s" % error.strerror
     return 0, None

@@ -63,6 +63,8 @@ STATUSES = [
     (70, "there is no program that runs here, or hb finds no Python"),
 ]
 WRONG_WORDS, READ_FAILED, WRITE_FAILED, STOPPED, NOT_BUILT = 2, 4, 5, 6, 70
+# With these the program ends without a word.
+SILENT = (3, 4, 5, 7)
 
 LAUNCHER = Path(__file__).resolve().parent.parent / "hbird"
 # The program reads at most one byte more than a text may have, so no more is read for it.
@@ -133,6 +135,9 @@ def outcome(text, options, job="run"):
         return Outcome(b"", NOT_BUILT, "%s: %s" % (program, needed()))
     if done.returncode < 0:
         return Outcome(done.stdout, 128 - done.returncode, "the program was ended by signal %d" % -done.returncode)
+    if done.returncode in SILENT:
+        return Outcome(done.stdout, done.returncode, "the program ended with status %d: %s" % (
+            done.returncode, dict(STATUSES)[done.returncode]))
     return Outcome(done.stdout, done.returncode)
 
 
@@ -179,7 +184,7 @@ def show_report(name, text, out, status, options, as_json, paint, times=None):
         write([json.dumps(found if times is None else dict(found, times=times))])
     elif text is not None:
         again = None if command.has_order(options) else lambda part: lines_of(run(part, options)[0])
-        write(show.report_shown(lines, name, text, paint, again))
+        write(show.report_shown(lines, streams.plain(name), text, paint, again))
         # A last line without an end is not whole, and no line of a report.
         sys.stdout.buffer.write(cut.encode("utf-8", "surrogateescape"))
         write(show.remarked(text, paint) if status in (0, STOPPED) and not cut else [])
@@ -218,7 +223,7 @@ def run_files(words):
     status = 0
     for number, name in enumerate(files):
         if len(files) > 1 and not as_json:
-            write([""] * bool(number) + [paint("file", "==> %s <==" % name)])
+            write([""] * bool(number) + [paint("file", "==> %s <==" % streams.plain(name))])
         ended = run_file(name, handed, as_json, paint, count)
         status = status or ended
         if ended == WRONG_WORDS and handed:

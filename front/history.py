@@ -8,9 +8,11 @@ from pathlib import Path
 
 import command
 import picture
+import show
 import timeline
+import whole
 
-WRONG_WORDS, READ_FAILED, WRITE_FAILED, STOPPED = 2, 4, 5, 6
+WRONG_WORDS, READ_FAILED, WRITE_FAILED, STOPPED, NOT_BUILT = 2, 4, 5, 6, 70
 HERE = Path(__file__).resolve().parent
 # More acts than these are not drawn at once.
 MOST = 2000
@@ -78,7 +80,7 @@ def heading(asked, told):
         ran = "one script" if told.is_one_order else "scripts at once, each by itself"
     first, end = asked.first, min(told.depth, asked.first + window(told))
     part = "acts %d to %d; --from=N begins at another one" % (min(first + 1, end), end)
-    return "%s: %s; %d acts%s" % (os.path.basename(asked.file), ran, len(told.rows), "" if (first, end) == (0, told.depth) else ", shown are " + part)
+    return "%s: %s; %d acts%s" % (show.clean(os.fsencode(os.path.basename(asked.file))), ran, len(told.rows), "" if (first, end) == (0, told.depth) else ", shown are " + part)
 
 
 def data(told, source, first):
@@ -104,7 +106,7 @@ def put(text, output):
         sys.stdout.write(text)
         sys.stdout.flush()
     else:
-        Path(output).write_text(text, encoding="utf-8")
+        whole.put(output, text.encode("utf-8"))
 
 
 def main(words, say):
@@ -123,15 +125,18 @@ def main(words, say):
     if status not in (0, STOPPED):
         return refused(asked, source, out, status, say)
     lines = hb.lines_of(out)
+    if "trace" not in lines:
+        say("the program wrote no trace, so nothing is drawn")
+        return NOT_BUILT
     told = timeline.Timeline(lines[lines.index("trace") + 1:], source, asked.has_order())
     title = heading(asked, told)
     svg = picture.Picture(told, asked.first, window(told)).svg(title)
     try:
         put(page(title, svg, told, source, asked.first) if asked.is_page() else svg, asked.output)
     except OSError as error:
-        if isinstance(error, BrokenPipeError):
+        if asked.output in (None, "-"):
             raise
-        say("%s: %s" % (asked.output or "the output", error.strerror))
+        say("%s: %s" % (asked.output, error.strerror))
         return WRITE_FAILED
     return 0
 
@@ -139,10 +144,10 @@ def main(words, say):
 def refused(asked, source, out, status, say):
     """What comes of a text that is no program, or of options that the program refuses: no picture."""
     import hb
-    import show
     if status == WRONG_WORDS:
         hb.name_refused(asked.options)
     else:
-        for line in show.report_shown(hb.lines_of(out)[:-1], asked.file, source, show.Paint(False)):
+        *lines, cut = hb.lines_of(out)
+        for line in show.report_shown(lines + [cut] * bool(cut), asked.file, source, show.Paint(False)):
             say(line)
     return status

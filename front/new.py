@@ -19,6 +19,17 @@ end
 """
 
 
+def put_new(name):
+    """Writes the program where no file is. Where it cannot be written whole, none is there behind that."""
+    with open(name, "xb") as file:
+        try:
+            file.write(PROGRAM)
+            file.flush()
+        except OSError:
+            os.unlink(name)
+            raise
+
+
 def main(given, say):
     options, names = command.parted(given)
     if options:
@@ -29,8 +40,7 @@ def main(given, say):
         return WRONG_WORDS
     name = names[0] if names[0].endswith(".hb") else names[0] + ".hb"
     try:
-        with open(name, "xb") as file:
-            file.write(PROGRAM)
+        put_new(name)
     except FileExistsError:
         say("%s is there already, and stays as it is" % name)
         return WRITE_FAILED

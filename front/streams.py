@@ -24,10 +24,19 @@ def drop(number):
     os.dup2(os.open(os.devnull, os.O_WRONLY), number)
 
 
+def plain(text):
+    """A text that stays on its line and does nothing else to a terminal: a letter that is not printed is a question mark.
+
+    A byte of a file's name that is no letter is none of these, and goes out as it came in.
+    """
+    return "".join(letter if letter.isprintable() or "\udc80" <= letter <= "\udcff" else "?" for letter in text)
+
+
 def say(message):
     """Says one line on standard error, where that can be written."""
     try:
-        print("hb: " + message, file=sys.stderr, flush=True)
+        sys.stderr.buffer.write(("hb: %s\n" % plain(message)).encode("utf-8", "surrogateescape"))
+        sys.stderr.buffer.flush()
     except OSError:
         drop(2)
 

@@ -21,12 +21,13 @@ def main(words, say):
     out, status = hb.run(bundle, [], "verify")
     paint = show.Paint(streams.wants_colours())
     text, behind = checks.parts(bundle)
-    lines = hb.lines_of(out)[:-1]
-    if status not in (0, STOPPED):
+    *lines, cut = hb.lines_of(out)
+    found = checks.derivations(behind)
+    if status not in (0, STOPPED) or cut or len(lines) != len(found):
         # The places of a fault of the program are those in its text; all others are those of the bundle.
         is_of_bundle = any(line.startswith("text BadBundle") for line in lines)
-        hb.write(show.report_shown(lines, name, bundle if is_of_bundle else text, paint))
+        hb.show_report(name, bundle if is_of_bundle else text, out, status, [], False, paint)
         return status
-    for number, (derivation, line) in enumerate(zip(checks.derivations(behind), lines), 1):
+    for number, (derivation, line) in enumerate(zip(found, lines), 1):
         hb.write(checks.verdict_shown(number, derivation, line, "program", text, paint))
     return status

@@ -6,6 +6,7 @@ import sys
 import time
 
 import command
+import streams
 
 WRONG_WORDS, READ_FAILED = 2, 4
 
@@ -109,7 +110,7 @@ def run_once(name, given, is_bare, run):
     """One run, below a line with the time. A terminal is cleared before it."""
     if not is_bare:
         clears = sys.stdout.isatty() and os.environ.get("TERM", "dumb") != "dumb"
-        line = "%s==> %s at %s; Ctrl-C ends <==\n" % (CLEAR * clears, name, time.strftime("%H:%M:%S"))
+        line = "%s==> %s at %s; Ctrl-C ends <==\n" % (CLEAR * clears, streams.plain(name), time.strftime("%H:%M:%S"))
         sys.stdout.buffer.write(os.fsencode(line))
         sys.stdout.buffer.flush()
     return run(["run", *given])

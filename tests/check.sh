@@ -98,14 +98,19 @@ check_program() {
         part check "bundles" python3 tests/bundles.py "$program"
         part check "programs of one script" python3 tests/alone.py "$program"
         part check "scripts by turns" python3 tests/turns.py "$program"
+        part check "scripts round one method" python3 tests/one_key.py "$program"
         part check "scripts at once" python3 tests/at_once.py "$program"
         part check "scripts at once with little memory" python3 tests/memory.py "$program"
+        part check "scripts at once that share what is limited" python3 tests/at_limits.py "$program"
+        part check "what is refused one at a time" python3 tests/failing.py "$program"
+        part check "hostile texts and bytes" python3 tests/hostile.py "$program"
     fi
 }
 
 check_front() {
     part check "hb" python3 tests/front.py
     part check "the streams of hb" python3 tests/streams.py
+    [[ ! -x $program ]] || part check "hb where things go wrong" python3 tests/rough.py "$program"
     part check "the commands of hb" python3 tests/commands.py "$program"
     [[ ! -x $program ]] || part check "the pictures of runs" python3 tests/pictures.py "$program"
     [[ ! -x $program ]] || part check "the page" python3 tests/page.py "$program"

@@ -36,6 +36,8 @@ input=$(wc -c)
 printf '%s' "$WRITES"; exit "$ENDS"
 """
 
+# What hb says of a program that ended and said nothing.
+ENDED = "hb: the program ended with status %d: %s\n"
 REPORT = "script s\n> 1\ndone\ncalls 1 own 0 shared 0 fresh 1\n"
 TABLE = [
     # what is not understood goes through as it came
@@ -44,9 +46,11 @@ TABLE = [
     ("a.hb", "> stop Busy 1:1\n> text TooLong\n", 0, "> stop Busy 1:1\n> text TooLong\n", 0, ""),
     ("a.hb", "stop busy 1:1\nstop Busy 1\n stop Busy 1:1\n", 6, "stop busy 1:1\nstop Busy 1\n stop Busy 1:1\n", 6, ""),
     ("a.hb", "words refused\n", 2, "words refused\n", 2, ""),
-    ("a.hb", "script s\n> cut he", 5, "script s\n> cut he", 5, ""),
-    ("a.hb", "stop Steps 3:7", 5, "stop Steps 3:7", 5, ""),
-    ("a.hb", "", 3, "", 3, ""),
+    ("a.hb", "script s\n> cut he", 5, "script s\n> cut he", 5, ENDED % (5, "a write failed")),
+    ("a.hb", "stop Steps 3:7", 5, "stop Steps 3:7", 5, ENDED % (5, "a write failed")),
+    ("a.hb", "", 3, "", 3, ENDED % (3, "memory ran out")),
+    ("a.hb", "", 4, "", 4, ENDED % (4, "a read failed")),
+    ("a.hb", "", 7, "", 7, ENDED % (7, "the process could not get its words")),
     ("a.hb", "", 70, "", 70, ""),
     # places and what the words mean
     ("a.hb", "stop NilValue 3:7\n", 6, """\
@@ -167,7 +171,7 @@ trace
      "2 hold 1 A.f two.hb:1:1 1\n2 busy A.f 4\n  why: the type of A.f is in use by call 1 of script one (A.f) and call 2 "
      "of script one (A.f) and call 3 of script one (A.f) and 1 more\n", 0, ""),
     # several runs: what does not hang on how scripts went is run once
-    ("--runs=9 a.hb", "", 3, "9 runs, and all gave one report\n\n==> 9 of 9 <==\n", 3, ""),
+    ("--runs=9 a.hb", "", 3, "9 runs, and all gave one report\n\n==> 9 of 9 <==\n", 3, ENDED % (3, "memory ran out")),
     ("--runs=9 a.hb", "text TooLong\n", 1, "text TooLong\n  TooLong: The text has more than 1,048,576 bytes.\n"
      "  (hb explain TooLong)\n", 1, ""),
     # words

@@ -12,6 +12,7 @@ import sys
 from markdown import FENCE, ROOT, anchors, sections
 
 sys.path[:0] = [str(ROOT / "front"), str(ROOT / "tools")]
+import answers  # noqa: E402
 import command  # noqa: E402
 import headline  # noqa: E402
 import lines  # noqa: E402
@@ -200,7 +201,7 @@ def main():
     for message in (*crates_are_told(), *paragraphs_are_short(architecture), *named_files_are_there(architecture)):
         wrong.append("docs/ARCHITECTURE.md: %s" % message)
     wrong += ["docs/PROOFS.md: %s" % message for message in (*crates_are_proved(), *crates_are_measured())]
-    wrong += [*version_has_its_changes(), *headline.faults(), *lines.faults()]
+    wrong += [*version_has_its_changes(), *headline.faults(), *lines.faults(), *answers.faults()]
     wrong += ["CONTRIBUTING.md: %s" % message for message in named_files_are_there(ROOT / "CONTRIBUTING.md")]
     for message in wrong:
         print(message)
