@@ -64,8 +64,8 @@ value_moves t old new move k first v n begins none comes fuel moves names calls 
           let us = take (need k) vs in
           let done : Answer = Done v (st_of (behind old (n + 1) v) read journal) in
           let there : meaning w (room fs) old.at.0 s ≡ plug w (room fs) k us fs done =
-              begins names calls keeps (room fs) s us fs (omega (arith, fuel))
-              ∙ ap (plug w (room fs) k us fs) (comes names (calls (room fs)) (begun s) refl (omega (arith, fuel)) ∙ counted v s (s.begun + 1 + n) (s.fuel - 1 - n) (s.begun + (n + 1)) (s.fuel - (n + 1)) (omega arith) (omega arith)) in
+          begins names calls keeps (room fs) s us fs (omega (arith, fuel))
+          ∙ ap (plug w (room fs) k us fs) (comes names (calls (room fs)) (begun s) refl (omega (arith, fuel)) ∙ counted v s (s.begun + 1 + n) (s.fuel - 1 - n) (s.begun + (n + 1)) (s.fuel - (n + 1)) (omega arith) (omega arith)) in
           ap (resume w ks vs fs) there
           ∙ ap (λ i. resume w ks (drop i vs) fs (plug w (room fs) k us fs done)) (sym none.0)
           ∙ ap (λ i. resume w ks (drop (need k) vs) (drop i fs) (plug w (room fs) k us fs done)) (sym none.1)

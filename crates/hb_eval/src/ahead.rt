@@ -61,13 +61,7 @@ pub(crate) fn leaf(prog: &Program, vars: &[(NameId, Value)], id: NodeId) -> Opti
 
 // What an operator makes of two such numbers, where it does not stop. Three expressions begin.
 #[inline(always)]
-fn operator(
-    prog: &Program,
-    vars: &[(NameId, Value)],
-    op: Op,
-    a: NodeId,
-    b: NodeId,
-) -> Option<Value>
+fn operator(prog: &Program, vars: &[(NameId, Value)], op: Op, a: NodeId, b: NodeId) -> Option<Value>
     requires left { a.0 < length prog.now.nodes }
     requires right { b.0 < length prog.now.nodes }
     ensures { IfSome result (λ value. (id : ℕ) → IsOperator prog.now id op a b → ComesAtOnce prog.now vars.now id value 3) }
@@ -83,11 +77,7 @@ fn operator(
 
 /// The number that an expression comes to.
 #[inline(always)]
-pub(crate) fn number(
-    prog: &Program,
-    vars: &[(NameId, Value)],
-    id: NodeId,
-) -> Option<Ahead<i64>>
+pub(crate) fn number(prog: &Program, vars: &[(NameId, Value)], id: NodeId) -> Option<Ahead<i64>>
     requires { id.0 < length prog.now.nodes }
     ensures comes { IfSome result (λ ahead. ComesAtOnce prog.now vars.now id.0 (Int ahead.value) ahead.begins) }
     ensures few { IfSome result (λ ahead. ahead.begins ≤ 3) }
