@@ -97,6 +97,7 @@ check_program() {
         part check "lists of words" python3 tests/words.py "$program"
         part check "bundles" python3 tests/bundles.py "$program"
         part check "programs of one script" python3 tests/alone.py "$program"
+        part check "expressions one by one and several at once" python3 tests/leaps.py "$program"
         part check "scripts by turns" python3 tests/turns.py "$program"
         part check "scripts round one method" python3 tests/one_key.py "$program"
         part check "scripts at once" python3 tests/at_once.py "$program"
