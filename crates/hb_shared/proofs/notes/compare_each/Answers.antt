@@ -26,7 +26,8 @@ compare-requires c =
     let same = c.requires.same in
     pair_cell same.0 c.pop.new.self.items left.0 c.args.notes.now.items c.args.others.items c.index_mut.result.now c.in-Some.other
     (split c.loop-other.others.items c.pop.new.self.items left.0 c.args.others.items c.in-Some.other c.in-Some.ensures.items left.1) same.1 same.2
-    (moved c.loop-other.notes.items c.args.notes.now.items c.len.result (length c.pop.new.self.items) c.index_mut.result.now c.loop-other.invariant.kept (c.len.ensures ∙ c.pop.new.self.ok.0) c.index_mut.ensures.value)
+    (moved c.loop-other.notes.items c.args.notes.now.items c.len.result (length c.pop.new.self.items) c.index_mut.result.now
+    c.loop-other.invariant.kept (c.len.ensures ∙ c.pop.new.self.ok.0) c.index_mut.ensures.value)
 
 pub loop-other-init : goal.loop-other-init
 loop-other-init c = record {
@@ -41,11 +42,14 @@ loop-other-preserved c =
     let same = c.requires.same in
     let whole = split c.loop-other.others.items c.pop.new.self.items left.0 c.args.others.items c.in-Some.other c.in-Some.ensures.items left.1 in
     record {
-      kept = put_back c.loop-other.notes.items c.args.notes.now.items c.len.result c.index_mut.result.now c.compare.new.self c.loop-other.invariant.kept c.compare.ensures.0 c.index_mut.ensures.value;
+      kept = put_back c.loop-other.notes.items c.args.notes.now.items c.len.result c.index_mut.result.now c.compare.new.self
+          c.loop-other.invariant.kept c.compare.ensures.0 c.index_mut.ensures.value;
       left = (c.in-Some.other ∷ left.0, whole);
       agree = compared c.pop.new.self.items left.0 c.args.notes.now.items c.args.others.items c.index_mut.result.now c.in-Some.other whole
           (as_many cell_of cell_of c.args.notes.now.items c.args.others.items (same.1 ∙ sym same.2))
-          (moved c.loop-other.notes.items c.args.notes.now.items c.len.result (length c.pop.new.self.items) c.index_mut.result.now c.loop-other.invariant.kept (c.len.ensures ∙ c.pop.new.self.ok.0) c.index_mut.ensures.value)
+          (moved c.loop-other.notes.items c.args.notes.now.items c.len.result (length c.pop.new.self.items) c.index_mut.result.now
+          c.loop-other.invariant.kept (c.len.ensures ∙ c.pop.new.self.ok.0) c.index_mut.ensures.value)
           c.compare.ensures.1
-          (λ at x y low. c.loop-other.invariant.agree at x y (subst (λ (l : List (Note Published)). length l ≤ at) (sym c.in-Some.ensures.items) (omega (arith, low, length-append c.pop.new.self.items (c.in-Some.other ∷ [])))));
+          (λ at x y low. c.loop-other.invariant.agree at x y (subst (λ (l : List (Note Published)). length l ≤ at) (sym
+          c.in-Some.ensures.items) (omega (arith, low, length-append c.pop.new.self.items (c.in-Some.other ∷ [])))));
     }

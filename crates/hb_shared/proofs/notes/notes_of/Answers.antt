@@ -14,5 +14,6 @@ loop-cell-preserved c =
           (notes_more c.args.cells.now.items c.loop-cell.notes.items c.loop-cell.cell-index c.cell-item.result c.note.result c.loop-cell.invariant.notes
           (subst (λ (cells : List Cell). c.loop-cell.cell-index < length cells) gone c.loop-cell-test.true)
           (subst (λ (cells : List Cell). get_or cells c.loop-cell.cell-index c.cell-item.result ≡ c.cell-item.result) gone (sym c.cell-item.is)) c.note.ensures.0);
-      nothing = λ at. ap (λ (notes : List (Note Published)). known_at notes at) c.in_ok-push.ensures.items ∙ nothing_more c.loop-cell.notes.items c.note.result c.loop-cell.invariant.nothing c.note.ensures.1 at;
+      nothing = λ at. ap (λ (notes : List (Note Published)). known_at notes at) c.in_ok-push.ensures.items ∙ nothing_more c.loop-cell.notes.items
+          c.note.result c.loop-cell.invariant.nothing c.note.ensures.1 at;
     }
