@@ -1,9 +1,9 @@
 -- What is read of an expression before it begins, and what a leap comes to.
-use Rattle.std.proofs.Common.{◌≡◌, ℕ, ◌+◌, ◌-◌, ◌<◌, ◌≤◌, List, take, drop, reverse, Option, Some, None, refl, sym, ap, ◌∙◌, subst, arith}
+use Rattle.std.proofs.Common.{◌≡◌, ℕ, ◌+◌, ◌-◌, ◌<◌, ◌≤◌, List, [], slice_get, unwrap_or, take, drop, reverse, Option, Some, None, refl, sym, ap, ◌∙◌, subst, arith}
 use Rattle.std.specs.Prelude.{ℤ, Ok, IfSome}
 use Rattle.hb_types.specs.declared.{ids.NodeId.NodeId}
-use Rattle.hb_tree.specs.{Table.Table, TreeAt.tree_at}
-use Rattle.hb_tree.specs.Tree.{TInt, TVar}
+use Rattle.hb_tree.specs.{Table.Table, TreeAt.tree_at, Canon.bytes_at}
+use Rattle.hb_tree.specs.Tree.{TInt, TText, TVar}
 use Rattle.hb_tree.specs.declared.node.Op.{Op}
 use Rattle.hb_eval.specs.declared.{value.Value.Value, cont.Cont.Cont, state.State.State, state.Hand.Hand, state.Move.Move}
 use Rattle.hb_eval.specs.declared.value.Value.TheVariants as value
@@ -25,6 +25,19 @@ variable_comes t vars id x v e found names call s same fuel =
     ap (λ a. ev t names call a s) e
     ∙ begin_goes id s (λ s. variable id (value_at s.vars x) s) (omega (arith, fuel))
     ∙ ap (λ o. variable id o (begun s)) (ap (λ bs. value_at bs x) same ∙ found)
+
+-- a text
+pub text_comes : (t : Table) (vars : Bindings) (id x : ℕ) (bytes : List ℕ) → tree_at t id ≡ TText id x → slice_get t.texts x ≡ Some bytes → ComesAtOnce t vars id (value.Str bytes) 1
+text_comes t vars id x bytes e is names call s same fuel =
+    ap (λ a. ev t names call a s) e
+    ∙ begin_goes id s (λ s. Done (value.Str (bytes_at t.texts x)) s) (omega (arith, fuel))
+    ∙ ap (λ o. Done (value.Str (unwrap_or o [])) (begun s)) is
+
+-- a variable that may have a text
+pub variable_may_be_text : {A : Type 0} (t : Table) (vars : Bindings) (id x : ℕ) (bytes : A → List ℕ) (o : Option A) → tree_at t id ≡ TVar id x → IfSome o (λ v. value_at vars x ≡ Some (value.Str (bytes v)))
+    → IfSome o (λ v. ComesAtOnce t vars id (value.Str (bytes v)) 1)
+variable_may_be_text t vars id x bytes None e found = tt
+variable_may_be_text t vars id x bytes (Some v) e found = variable_comes t vars id x (value.Str (bytes v)) e found
 
 -- a variable that may have a number
 pub variable_may_come : (t : Table) (vars : Bindings) (id x : ℕ) (n : Option ℤ) → tree_at t id ≡ TVar id x → IfSome n (λ n. value_at vars x ≡ Some (value.Int n)) → IfSome n (λ n. ComesAtOnce t vars id (value.Int n) 1)

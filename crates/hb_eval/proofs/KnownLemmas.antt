@@ -1,17 +1,18 @@
 -- The classes of objects in hand stay those of the program.
-use Rattle.std.proofs.Common.{◌≡◌, ℕ, zero, suc, List, [], ◌∷◌, ◌++◌, take, drop, Option, Some, None, Bool, true, false, nat_eq, sym, subst}
-use Rattle.std.specs.Prelude.{ℤ, ◌+ℤ◌, ◌-ℤ◌, ◌*ℤ◌, Result, Ok, Err, if◌then◌else◌}
+use Rattle.std.proofs.Common.{◌≡◌, ℕ, zero, suc, List, [], ◌∷◌, ◌++◌, length, take, drop, Option, Some, None, Bool, true, false, nat_eq, sym, subst}
+use Rattle.std.specs.Prelude.{ℤ, ◌+ℤ◌, ◌-ℤ◌, ◌*ℤ◌, Result, Ok, Err, if◌then◌else◌, nat_le}
 use Rattle.std.specs.List.{AllByRecursion}
 use Rattle.std.proofs.lemmas.List.{take-append-drop}
 use Rattle.hb_tree.specs.declared.{node.Op.Op}
 use Rattle.hb_tree.specs.declared.node.Op.TheVariants as op
+use Rattle.hb_tree.specs.declared.limits.TheConstants.{TEXT_BYTES_MAX}
 use Rattle.hb_tree.specs.Table.{Table}
 use Rattle.hb_tree.proofs.Lists.{each_append}
 use Rattle.hb_eval.specs.declared.{value.Value.Value, stop.Stop.Stop}
 use Rattle.hb_eval.specs.declared.value.Value.TheVariants as value
 use Rattle.hb_eval.specs.declared.stop.Stop.TheVariants as stop
 use Rattle.hb_eval.specs.Values.{IsKnown}
-use Rattle.hb_eval.specs.Operators.{is_int, int_of, operate}
+use Rattle.hb_eval.specs.Operators.{is_int, int_of, text_of, operate}
 use Rattle.hb_eval.specs.State.{Bindings, value_at, bind}
 
 pub pushed_known : (t : Table) (xs : List Value) (v : Value) → AllByRecursion (IsKnown t) xs → IsKnown t v → AllByRecursion (IsKnown t) (xs ++ v ∷ [])
@@ -25,6 +26,14 @@ int_known : (t : Table) (n : ℤ) → Comes t (int_of n)
 int_known t n = go (is_int n)
   where
     go : (fits : Bool) → Comes t (if fits then Ok (value.Int n) else Err stop.Overflow)
+    go true = tt
+    go false = tt
+
+-- a text that is not too long
+pub text_known : (t : Table) (bytes : List ℕ) (v : Value) → text_of bytes ≡ Ok v → IsKnown t v
+text_known t bytes v e = subst (Comes t) e (go (nat_le (length bytes) TEXT_BYTES_MAX))
+  where
+    go : (fits : Bool) → Comes t (if fits then Ok (value.Str bytes) else Err stop.LongText)
     go true = tt
     go false = tt
 

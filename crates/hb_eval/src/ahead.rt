@@ -1,10 +1,11 @@
 //! What expressions come to, where that is read before they begin.
 //!
-//! Only numbers and variables that have one are read, and operators on two of these. They ask no table, change nothing and do not stop.
+//! Only numbers and texts, variables that have one, and operators on two of these are read. They ask no table, change nothing and do not stop.
 
 ghost use Rattle.std.specs.Prelude.{◌≡◌, ◌<◌, ◌≤◌, ℕ, drop, length, IfSome, Some};
 ghost use Rattle.hb_tree.specs.TreeAt.{tree_at};
-ghost use Rattle.hb_eval.specs.declared.value.Value.TheVariants.{Bool, Int};
+ghost use Rattle.hb_tree.specs.declared.limits.TheConstants.{TEXT_BYTES_MAX};
+ghost use Rattle.hb_eval.specs.declared.value.Value.TheVariants.{Bool, Int, Str};
 ghost use Rattle.hb_eval.specs.Ahead.{ComesAtOnce, IsOperator};
 ghost use Rattle.hb_eval.specs.State.{value_at};
 
@@ -55,6 +56,41 @@ pub(crate) fn leaf(prog: &Program, vars: &[(NameId, Value)], id: NodeId) -> Opti
     match prog.node(id) {
         Node::Int(number) => Some(number),
         Node::Var(name) => number_of(vars, name),
+        _ => None,
+    }
+}
+
+// The bytes of the text that a variable has.
+#[inline(always)]
+fn text_of(vars: &[(NameId, Value)], name: NameId) -> Option<&[u8]>
+    ensures comes { IfSome result (λ bytes. value_at vars.now name.0 ≡ Some (Str bytes.now)) }
+    ensures short { IfSome result (λ bytes. length bytes.now ≤ TEXT_BYTES_MAX) }
+{
+    for (known, value) in vars {
+        if *known == name {
+            return match value {
+                Value::Str(text) => Some(text.bytes()),
+                _ => None,
+            };
+        }
+    }
+    None
+}
+
+/// The bytes of the text that stands there, or that the variable there has.
+#[inline(always)]
+pub(crate) fn text_leaf<'a>(
+    prog: &'a Program,
+    vars: &'a [(NameId, Value)],
+    id: NodeId,
+) -> Option<&'a [u8]>
+    requires { id.0 < length prog.now.nodes }
+    ensures comes { IfSome result (λ bytes. ComesAtOnce prog.now vars.now id.0 (Str bytes.now) 1) }
+    ensures short { IfSome result (λ bytes. length bytes.now ≤ TEXT_BYTES_MAX) }
+{
+    match prog.node(id) {
+        Node::Text(text) => Some(prog.text(text)),
+        Node::Var(name) => text_of(vars, name),
         _ => None,
     }
 }

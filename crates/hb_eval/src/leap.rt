@@ -4,22 +4,24 @@
 
 ghost use Rattle.std.specs.Prelude.{◌≡◌, ◌+◌, ◌<◌, ◌≤◌, ◌^◌, length, OnOk, IfOk};
 ghost use Rattle.hb_tree.specs.TreeAt.{IsBlockAt, IsExprAt, tree_at};
+ghost use Rattle.hb_tree.specs.declared.node.Op.TheVariants as op;
 ghost use Rattle.hb_tree.specs.Tree.{TAssign, TIf, TWhile};
 ghost use Rattle.hb_eval.specs.Ahead.{HasLeapt, IsOperator, behind};
 ghost use Rattle.hb_eval.specs.Steps.{SameCalls};
 
-use crate::ahead::{condition, leaf, number, variables_from};
+use crate::ahead::{condition, leaf, number, text_leaf, variables_from};
 use crate::blocks::{choose, test};
 use crate::cont::Cont;
 use crate::moves::{in_hand, take};
-use crate::operators::on_ints;
+use crate::operators::{joined, on_ints};
 use crate::state::{Hand, State};
 use crate::steps::{assign, left};
+use crate::stop::Fail;
 use crate::value::Value;
 use hb_tree::node::{Node, Op};
 use hb_tree::program::Program;
 use hb_types::ids::{NameId, NodeId};
-use std::alloc::AllocError;
+use std::alloc::{AllocError, Global};
 
 // So many expressions have begun, and this value is in hand.
 #[inline(always)]
@@ -36,6 +38,7 @@ fn pass(state: &mut State, begins: u32, value: Value)
 // An operator whose operands are both read, or the left one alone: then the right one begins next.
 #[inline(always)]
 fn leap_operator(
+    alloc: Global,
     prog: &Program,
     op: Op,
     a: NodeId,
@@ -58,7 +61,10 @@ fn leap_operator(
     let id = state.at;
     let vars = variables_from(&state.vars, state.base);
     match leaf(prog, vars, a) {
-        None => Ok(None),
+        None => match op {
+            Op::Concat => leap_texts(alloc, prog, a, b, state, conts),
+            _ => Ok(None),
+        },
         Some(first) => match leaf(prog, vars, b) {
             None => {
                 pass(state, 2, Value::Int(first));
@@ -72,6 +78,42 @@ fn leap_operator(
                 }
             },
         },
+    }
+}
+
+// Two texts that are read where they stand are joined.
+#[inline(never)]
+fn leap_texts(
+    alloc: Global,
+    prog: &Program,
+    a: NodeId,
+    b: NodeId,
+    state: &mut State,
+    conts: &mut Vec<Cont>,
+) -> Result<Option<Hand>, AllocError>
+    requires operator { IsOperator prog.now state.old.at.0 op.Concat a b }
+    requires left { IsExprAt prog.now a.0 }
+    requires right { IsExprAt prog.now b.0 }
+    requires base { state.old.base ≤ length state.old.vars.items }
+    requires time { state.old.begun + state.old.fuel < 2 ^ 32 }
+    ensures leapt { IfOk result (HasLeapt prog.now state.old state.new conts.old conts.new) }
+    ensures calls { SameCalls state.old state.new }
+    ensures cache { state.new.cache ≡ state.old.cache }
+{
+    if state.fuel < 3 {
+        return Ok(None);
+    }
+    let vars = variables_from(&state.vars, state.base);
+    match (text_leaf(prog, vars, a), text_leaf(prog, vars, b)) {
+        (Some(front), Some(behind)) => match joined(alloc, front, behind) {
+            Err(Fail::NoMemory) => Err(AllocError),
+            Err(Fail::Stopped(_)) => Ok(None),
+            Ok(value) => {
+                pass(state, 3, value);
+                Ok(Some(take(conts, in_hand())?))
+            }
+        },
+        _ => Ok(None),
     }
 }
 
@@ -169,6 +211,7 @@ fn leap_loop(
 /// The expression that begins next begins together with what is read of it, where there is fuel for all of them. What began last is not told.
 #[inline(always)]
 pub(crate) fn leap(
+    alloc: Global,
     prog: &Program,
     state: &mut State,
     conts: &mut Vec<Cont>,
@@ -181,7 +224,7 @@ pub(crate) fn leap(
     ensures cache { state.new.cache ≡ state.old.cache }
 {
     match prog.node(state.at) {
-        Node::Binary(op, a, b) => leap_operator(prog, op, a, b, state, conts),
+        Node::Binary(op, a, b) => leap_operator(alloc, prog, op, a, b, state, conts),
         Node::Assign(name, of) => leap_assignment(prog, name, of, state, conts),
         Node::If(of, a, b) => leap_choice(prog, of, a, b, state, conts),
         Node::While(of, block) => leap_loop(prog, of, block, state, conts),

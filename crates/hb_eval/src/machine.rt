@@ -305,7 +305,7 @@ impl Machine {
         ensures caller { self.new.caller ≡ self.old.caller }
         ensures journal { self.new.journal ≡ self.old.journal }
     {
-        match leap(prog, &mut self.state, &mut self.conts)? {
+        match leap(alloc, prog, &mut self.state, &mut self.conts)? {
             Some(hand) => {
                 self.hand = hand;
                 Ok(())

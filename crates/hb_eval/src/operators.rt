@@ -1,6 +1,7 @@
 //! What operators make of values.
 
-ghost use Rattle.std.specs.Prelude.{◌≡◌, ◌++◌};
+ghost use Rattle.std.specs.Prelude.{◌≡◌, ◌≤◌, ◌++◌, length};
+ghost use Rattle.hb_tree.specs.declared.limits.TheConstants.{TEXT_BYTES_MAX};
 ghost use Rattle.hb_eval.specs.declared.value.Value.TheVariants.{Int, Str};
 ghost use Rattle.hb_eval.specs.Operators as operators;
 ghost use Rattle.hb_eval.specs.Operators.{ComesTo};
@@ -81,11 +82,12 @@ fn int_of(number: Option<i64>) -> Result<Value, Stop>
     }
 }
 
-// Two texts joined.
-fn joined(alloc: Global, x: &Text, y: &Text) -> Result<Value, Fail>
-    ensures { ComesTo result (operators.text_of (x.now ++ y.now)) }
+/// Two texts joined.
+pub(crate) fn joined(alloc: Global, front: &[u8], behind: &[u8]) -> Result<Value, Fail>
+    requires front { length front.now ≤ TEXT_BYTES_MAX }
+    requires behind { length behind.now ≤ TEXT_BYTES_MAX }
+    ensures { ComesTo result (operators.text_of (front.now ++ behind.now)) }
 {
-    let (front, behind) = (x.bytes(), y.bytes());
     if front.len() + behind.len() > TEXT_BYTES_MAX {
         return Err(Fail::Stopped(Stop::LongText));
     }
@@ -100,7 +102,7 @@ fn on_texts(alloc: Global, op: Op, x: &Text, y: &Text) -> Result<Value, Fail>
     ensures { ComesTo result (operators.operate op (Str x.now) (Str y.now)) }
 {
     match op {
-        Op::Concat => joined(alloc, x, y),
+        Op::Concat => joined(alloc, x.bytes(), y.bytes()),
         Op::Equal => Ok(Value::Bool(x.bytes() == y.bytes())),
         _ => Err(Fail::Stopped(Stop::BadOperand)),
     }
