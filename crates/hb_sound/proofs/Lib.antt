@@ -10,4 +10,5 @@ pub mod PartLemmas
 pub mod FullLemmas
 pub mod FillLemmas
 pub mod LawLemmas
+pub mod RefusalLemmas
 pub mod Examples

@@ -3,3 +3,4 @@ pub mod Frames
 pub mod Bodies
 pub mod Scripts
 pub mod Parts
+pub mod Refusals

@@ -1,10 +1,11 @@
 //! What is true of runs against a legal history.
 
-ghost use Rattle.std.specs.Prelude.{◌≡◌, ◌≤◌, length, ℕ, Contains, List, ◌∷◌, map, Option, Some};
+ghost use Rattle.std.specs.Prelude.{◌≡◌, ◌≢◌, ◌⊎◌, ◌≤◌, length, ℕ, Contains, IsErr, List, [], ◌∷◌, ◌++◌, map, Option, Result, Some};
 ghost use Rattle.hb_types.specs.declared.ids.BodySite.{BodySite};
 ghost use Rattle.hb_types.specs.declared.ids.CallNo.{CallNo};
 ghost use Rattle.hb_types.specs.declared.ids.KeyId.{KeyId};
 ghost use Rattle.hb_types.specs.declared.ids.NodeId.{NodeId};
+ghost use Rattle.hb_types.specs.declared.ids.TypeSite.{TypeSite};
 ghost use Rattle.hb_types.specs.declared.types.Ty.{Ty};
 ghost use Rattle.hb_types.specs.Variables.{Variables};
 ghost use Rattle.hb_tree.specs.Program.{IsProgram};
@@ -14,13 +15,20 @@ ghost use Rattle.hb_tree.specs.Tree.{Tree};
 ghost use Rattle.hb_tree.specs.TreeAt.{tree_at};
 ghost use Rattle.hb_names.specs.declared.names.TheConstants.{NAMES_MAX};
 ghost use Rattle.hb_names.specs.Names.{Name};
+ghost use Rattle.hb_tables.specs.declared.desk.DefAnswer.{DefAnswer};
+ghost use Rattle.hb_tables.specs.declared.desk.DefAnswer.TheVariants as defined;
+ghost use Rattle.hb_tables.specs.declared.desk.Look.{Look};
+ghost use Rattle.hb_tables.specs.declared.desk.TypeAnswer.{TypeAnswer};
+ghost use Rattle.hb_tables.specs.declared.desk.TypeAnswer.TheVariants as typed;
 ghost use Rattle.hb_tables.specs.declared.entry.Act.TheVariants.{Call};
 ghost use Rattle.hb_tables.specs.declared.entry.ArgKinds.{ArgKinds};
 ghost use Rattle.hb_tables.specs.declared.entry.By.{By};
 ghost use Rattle.hb_tables.specs.declared.entry.Entry.{Entry};
+ghost use Rattle.hb_tables.specs.declared.entry.Verdict.{Verdict};
 ghost use Rattle.hb_tables.specs.declared.entry.Verdict.TheVariants.{Enter};
+ghost use Rattle.hb_tables.specs.Answers.{DefAdds, Decides, TypeAdds};
 ghost use Rattle.hb_tables.specs.Frames.{acts};
-ghost use Rattle.hb_tables.specs.History.{Every, IsLegal};
+ghost use Rattle.hb_tables.specs.History.{Every, IsLegal, spot};
 ghost use Rattle.hb_tables.specs.Rows.{HasCallRows, IsDecided, kinds_of, types_in};
 ghost use Rattle.hb_call.specs.Rules.{FitsRules};
 ghost use Rattle.hb_eval.specs.declared.stop.Outcome.TheVariants.{Stopped};
@@ -35,6 +43,7 @@ ghost use Rattle.hb_eval.specs.Values.{kind_of};
 ghost use Rattle.hb_sound.specs.Bodies.{Enters, IsJudgedIn, begun_with};
 ghost use Rattle.hb_sound.specs.Frames.{AreLive, Frame};
 ghost use Rattle.hb_sound.specs.Parts.{IsPart, IsReached};
+ghost use Rattle.hb_sound.specs.Refusals.{ChangesNothing, IsRefusal, Refuses};
 ghost use Rattle.hb_sound.specs.Scripts.{EndsWell, IsInBody};
 ghost use Rattle.hb_sound.specs.Sound.{IsNamed, Sound, Stands};
 
@@ -86,4 +95,13 @@ pub fn full_stops_have_full_lists()
     ensures { (t : Table) (names : List Name) (limit : ℕ) (log : List Entry) (c : ℕ) → IsLegal limit log → Every (λ before e. FitsRules t names e.caller.0 before e.act) log → length names ≤ NAMES_MAX
         → (room block steps : ℕ) (run : Run) (id : NodeId) → script_run t names (call_in t names room) block steps (acts c log) ≡ Some run → run.outcome ≡ Stopped Full id
         → length names ≡ NAMES_MAX }
+{}
+
+/// The entry of a refused call leaves each key's type, definition, counts and holds as they were. So a call of a desk that answers a refusal adds its own entry at most, and changes no state.
+pub fn refused_calls_change_nothing()
+    ensures entries { (before : List Entry) (e : Entry) → IsRefusal e.act → (k : ℕ) → spot k (before ++ e ∷ []) ≡ spot k before }
+    ensures types { (c : ℕ) (old new : List Entry) (key : KeyId) (site : TypeSite) (answer : TypeAnswer) → TypeAdds c old new key site answer → answer ≢ typed.Done → ChangesNothing c old new }
+    ensures definitions { (c : ℕ) (old new : List Entry) (key : KeyId) (site : BodySite) (answer : DefAnswer) → DefAdds c old new key site answer → answer ≢ defined.Done → ChangesNothing c old new }
+    ensures calls { (c : ℕ) (old new : List Entry) (q : CallNo) (key owner : KeyId) (look : Look) (args : ArgKinds) (verdict : Verdict) (answer : Result (Unit {0}) Look)
+        → Decides c old new q key owner look args verdict answer → IsErr answer ⊎ Refuses verdict → ChangesNothing c old new }
 {}

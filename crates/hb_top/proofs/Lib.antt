@@ -10,3 +10,4 @@ pub mod DeriveLemmas
 pub mod OneBundleLemmas
 pub mod VerifyLemmas
 mod TurnLemmas
+pub mod CompleteLemmas

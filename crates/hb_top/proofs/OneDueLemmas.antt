@@ -7,7 +7,7 @@ use Rattle.hb_lex.specs.declared.spans.Token.{Token}
 use Rattle.hb_lex.specs.Text.{HasFault, HasTokens}
 use Rattle.hb_build.specs.declared.faults.ParseFail.{ParseFail}
 use Rattle.hb_build.specs.Said.{Said, said_in}
-use Rattle.hb_eval.specs.Told.{is_done}
+use Rattle.hb_eval.specs.Told.{Told, is_done}
 use Rattle.hb_jobs.specs.Jobs.{Options}
 use Rattle.hb_draft.specs.Laid.{IsLaid}
 use Rattle.hb_tree.specs.Program.{IsProgram}
@@ -16,7 +16,7 @@ use Rattle.hb_top.specs.Answers.{HasFixedTurns, IsBundle, IsDeriveOf, IsOne, IsR
 use Rattle.hb_top.specs.Derived.{IsDerived}
 use Rattle.hb_top.specs.Faults.{Fault, IsFirstFault, fault_line, lex_fault, parse_fault}
 use Rattle.hb_top.specs.Outcomes.{Outcome, faulty}
-use Rattle.hb_top.specs.Reports.{AreFixed, IsReported}
+use Rattle.hb_top.specs.Reports.{AreFixed, IsReported, ending_of}
 use Rattle.hb_tree.specs.Table.{Table}
 use Rattle.hb_top.specs.declared.due.Ending.TheVariants.{Done, Stopped, TextRefused}
 use Rattle.hb_top.specs.declared.top.TheConstants.{LIMIT}
@@ -48,27 +48,32 @@ one-fault one text a b (inr x) (inr y) =
     same-told parse_fault x.cause y.cause a b (one.parse_fault text _ _ _ first y.first) x.is_told y.is_told
 
 -- a program has none
-whole-fault : OneText → {Comes : Table → Outcome → Type 0} (text : List ℕ) (o : Outcome) (fault : Fault) → IsWhole Comes text o → IsFirstFault text fault → ⊥
-whole-fault one text o fault whole (inl x) = one.lex_apart text _ _ whole.said.read x.first
-whole-fault one text o fault whole (inr x) =
-    let tokens = one.tokens text x.tokens whole.said.tokens x.read whole.said.read in
-    one.parse_apart text whole.said.tokens (said_in whole.program) x.cause whole.said.says (subst (λ (z : List Token). IsFault text z x.cause) tokens x.first)
+pub said-fault : OneText → (text : List ℕ) (program : Table) (fault : Fault) → IsTextOf text program → IsFirstFault text fault → ⊥
+said-fault one text program fault said (inl x) = one.lex_apart text _ _ said.read x.first
+said-fault one text program fault said (inr x) =
+    let tokens = one.tokens text x.tokens said.tokens x.read said.read in
+    one.parse_apart text said.tokens (said_in program) x.cause said.says (subst (λ (z : List Token). IsFault text z x.cause) tokens x.first)
+
+-- a text says one program
+pub one-said : OneText → (text : List ℕ) (a b : Table) → IsTextOf text a → IsTextOf text b → IsProgram a → IsProgram b → a ≡ b
+one-said one text a b x y is_a is_b =
+    let tokens : x.tokens ≡ y.tokens = one.tokens text x.tokens y.tokens x.read y.read in
+    let of : IsProgramOf text y.tokens a = subst (λ (z : List Token). IsProgramOf text z a) tokens x.says in
+    one.program text y.tokens a b y.read is_a is_b x.laid y.laid of y.says
 
 -- nor has it another outcome, where what the program comes to is one
 one-whole : OneText → (Comes : Table → Outcome → Type 0) (text : List ℕ) (a b : Outcome) → ((t : Table) → IsTextOf text t → Comes t a → Comes t b → a ≡ b)
     → IsWhole Comes text a → IsWhole Comes text b → a ≡ b
 one-whole one Comes text a b same x y =
-    let tokens : x.said.tokens ≡ y.said.tokens = one.tokens text x.said.tokens y.said.tokens x.said.read y.said.read in
-    let of : IsProgramOf text y.said.tokens x.program = subst (λ (z : List Token). IsProgramOf text z x.program) tokens x.said.says in
-    let programs : x.program ≡ y.program = one.program text y.said.tokens x.program y.program y.said.read x.is y.is x.said.laid y.said.laid of y.said.says in
+    let programs : x.program ≡ y.program = one-said one text x.program y.program x.said y.said x.is y.is in
     same y.program y.said (subst (λ (t : Table). Comes t a) programs x.comes) y.comes
 
 one-read : OneText → (Comes : Table → Outcome → Type 0) (text : List ℕ) (takes : ℕ) (a b : Outcome) → ((t : Table) → IsTextOf text t → Comes t a → Comes t b → a ≡ b)
     → IsReadAs Comes text takes a → IsReadAs Comes text takes b → a ≡ b
 one-read one Comes text takes a b same (inl x) (inl y) =
     x.same ∙ ap (λ (z : Fault). faulty (fault_line text z) takes) (one-fault one text x.fault y.fault x.first y.first) ∙ sym y.same
-one-read one Comes text takes a b same (inl x) (inr y) = absurd (whole-fault one text b x.fault y x.first)
-one-read one Comes text takes a b same (inr x) (inl y) = absurd (whole-fault one text a y.fault x y.first)
+one-read one Comes text takes a b same (inl x) (inr y) = absurd (said-fault one text y.program x.fault y.said x.first)
+one-read one Comes text takes a b same (inr x) (inl y) = absurd (said-fault one text x.program y.fault x.said y.first)
 one-read one Comes text takes a b same (inr x) (inr y) = one-whole one Comes text a b same x y
 
 one-within : (limit : ℕ) (Comes : List ℕ → Outcome → Type 0) (text : List ℕ) (a b : Outcome) → (Comes text a → Comes text b → a ≡ b)
@@ -78,13 +83,16 @@ one-within limit Comes text a b same (inl r) (inr s) = absurd (omega (arith, r.0
 one-within limit Comes text a b same (inr r) (inl s) = absurd (omega (arith, r.0, s.0))
 one-within limit Comes text a b same (inr r) (inr s) = same r.1 s.1
 
--- a report is no refusal
-reported-not_refused : (t : Table) (options : Options) (len : ℕ) (o : Outcome) → IsReported t options len o → o.ending ≡ TextRefused → ⊥
-reported-not_refused t options len o told refused = report (list_all (λ r. is_done r.outcome) told.runs) (sym (ap (λ (x : Outcome). x.ending) told.same) ∙ refused)
-  where
-    report : (b : Bool) → (if b then Done else Stopped) ≡ TextRefused → ⊥
-    report true e = cc
-    report false e = cc
+-- how runs end is no refusal, nor is a report
+pub ends-not_refused : (done : Bool) → (if done then Done else Stopped) ≡ TextRefused → ⊥
+ends-not_refused true e = cc
+ends-not_refused false e = cc
+
+pub runs-not_refused : (runs : List Told) (o : Outcome) → o.ending ≡ ending_of runs → o.ending ≡ TextRefused → ⊥
+runs-not_refused runs o same refused = ends-not_refused (list_all (λ r. is_done r.outcome) runs) (sym same ∙ refused)
+
+pub reported-not_refused : (t : Table) (options : Options) (len : ℕ) (o : Outcome) → IsReported t options len o → o.ending ≡ TextRefused → ⊥
+reported-not_refused t options len o told refused = runs-not_refused told.runs o (ap (λ (x : Outcome). x.ending) told.same) refused
 
 one-reported : OneText → (options : Options) (text : List ℕ) (a b : Outcome) → (a.ending ≡ TextRefused) ⊎ HasFixedTurns options text
     → (t : Table) → IsTextOf text t → IsReported t options (length text) a → IsReported t options (length text) b → a ≡ b

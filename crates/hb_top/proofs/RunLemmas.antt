@@ -130,7 +130,7 @@ status_other Stopped n a b h = omega arith
 status_other TextRefused n a b h = omega arith
 status_other WordsRefused n a b h = omega arith
 
-refused-words : (job : Option Wanted) (left : Option (List ℕ)) (o : Outcome) → IsDueFor job left o → o.ending ≡ WordsRefused → IsNone job
+pub refused-words : (job : Option Wanted) (left : Option (List ℕ)) (o : Outcome) → IsDueFor job left o → o.ending ≡ WordsRefused → IsNone job
 refused-words None left o h e = search rules
 refused-words (Some (Run options)) left o h e = absurd (within-no_refusal LIMIT (IsReport options) (report-no_refusal options) left o h e)
 refused-words (Some Derive) left o h e = absurd (within-no_refusal LIMIT IsBundle bundle-no_refusal left o h e)

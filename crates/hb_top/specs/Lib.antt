@@ -6,4 +6,5 @@ pub mod Work
 pub mod Derived
 pub mod Verified
 pub mod Answers
+pub mod Complete
 pub mod Texts

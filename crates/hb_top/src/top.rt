@@ -1,13 +1,14 @@
 //! The top call: all that the program does, over any source and sink.
 
-ghost use Rattle.std.specs.Prelude.{◌≡◌, ◌≤◌, ℕ, List, Err, IfOk, OnErr, length};
+ghost use Rattle.std.specs.Prelude.{◌≡◌, ◌≤◌, ℕ, List, Option, Err, IfOk, OnErr, length};
 ghost use Rattle.std.specs.Io.KnownBytes.{Keeps};
 ghost use Rattle.std.specs.Option.{option_map};
 ghost use Rattle.hb_io.specs.Causes.{Rose};
 ghost use Rattle.hb_jobs.specs.Given.{texts};
-ghost use Rattle.hb_jobs.specs.Jobs.{Options, job_of, options_told, told};
+ghost use Rattle.hb_jobs.specs.Jobs.{Options, Wanted, job_of, options_told, told};
 ghost use Rattle.hb_tree.specs.Table.{Table};
 ghost use Rattle.hb_top.specs.Answers.{Answers, Ends, IsDeriveOf, IsDueFor, IsOne, IsOutcomeOf, IsReport, IsRunOf, Reads};
+ghost use Rattle.hb_top.specs.Complete.{IsComplete};
 ghost use Rattle.hb_top.specs.Outcomes.{IsDueBy, IsDueFrom, Outcome};
 ghost use Rattle.hb_top.specs.Reports.{AreFixed, IsReported};
 
@@ -126,6 +127,54 @@ pub fn one_bundle()
     programs_derivation_derives();
 }
 
+/// Where the words ask for a job, what it goes by has no fault and no count of faults rose, each answer but want of memory is that of what is due: 0, or 6.
+pub fn complete()
+    ensures { (asked : Option Wanted) (old new : Ends) (answer : ℕ) → Answers asked old new answer → IsComplete asked old new answer }
+{
+    hb_lex::one_answer();
+    hb_parse::one_answer();
+    hb_parse::one_program();
+    one_report();
+}
+
+// The job that the words ask for is done.
+fn answer<'a, R: Threads + Sync, S: Source, K: Sink, G: Gate + Sync>(
+    rt: &R,
+    alloc: Global,
+    words: &'a [&'a str],
+    source: &mut S,
+    out: &mut K,
+    gate: &G,
+) -> u8
+    ensures { let old : Ends = record {
+      left = S.left source.old;
+      read_faults = S.faults source.old;
+      held = K.held out.old;
+      write_faults = K.faults out.old;
+    } in
+        let new : Ends = record {
+          left = S.left source.new;
+          read_faults = S.faults source.new;
+          held = K.held out.new;
+          write_faults = K.faults out.new;
+        } in
+        Answers (job_of (texts words.entry.now)) old new result }
+{
+    let job = match job_asked(alloc, words) {
+        Ok(job) => job,
+        Err(_) => return MEMORY,
+    };
+    let due = match due_for(rt, alloc, &job, source, gate) {
+        Ok(due) => due,
+        Err(Stop::Fault) => return READ_FAULT,
+        Err(Stop::Memory) => return MEMORY,
+    };
+    match write_all_of(out, due.text.as_slice()) {
+        Ok(()) => due.ending.status(),
+        Err(_) => WRITE_FAULT,
+    }
+}
+
 /// All that the program does: takes the words after its name, a source and a sink, and answers the
 /// exit status. Scripts that no order gives turns run at once, and each of their table calls passes
 /// the gate.
@@ -156,21 +205,23 @@ pub fn hbird<'a, R: Threads + Sync, S: Source, K: Sink, G: Gate + Sync>(
           write_faults = K.faults out.new;
         } in
         Answers (job_of (texts words.entry.now)) old new result }
+    ensures complete { let old : Ends = record {
+      left = S.left source.old;
+      read_faults = S.faults source.old;
+      held = K.held out.old;
+      write_faults = K.faults out.old;
+    } in
+        let new : Ends = record {
+          left = S.left source.new;
+          read_faults = S.faults source.new;
+          held = K.held out.new;
+          write_faults = K.faults out.new;
+        } in
+        IsComplete (job_of (texts words.entry.now)) old new result }
 {
     one_due();
     one_report();
     one_bundle();
-    let job = match job_asked(alloc, words) {
-        Ok(job) => job,
-        Err(_) => return MEMORY,
-    };
-    let due = match due_for(rt, alloc, &job, source, gate) {
-        Ok(due) => due,
-        Err(Stop::Fault) => return READ_FAULT,
-        Err(Stop::Memory) => return MEMORY,
-    };
-    match write_all_of(out, due.text.as_slice()) {
-        Ok(()) => due.ending.status(),
-        Err(_) => WRITE_FAULT,
-    }
+    complete();
+    answer(rt, alloc, words, source, out, gate)
 }
