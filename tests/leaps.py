@@ -3,8 +3,8 @@
     python3 tests/leaps.py PATH_TO_HBIRD
 
 A script that plays out begins several expressions at once where they are read where they
-stand: numbers, variables that have one, and operators, choices, loops and assignments over
-these. Here each text runs by an order of its own turns, one expression in each, and played
+stand: numbers, texts, variables that have one, and operators, choices, loops and assignments
+over these. Here each text runs by an order of its own turns, one expression in each, and played
 out, with each number of steps up to its end. So fuel ends in each place of a leap; and in
 each place stands a number, what has none, and what stops.
 """
@@ -12,10 +12,12 @@ import sys
 
 from turns import written
 
-SET = {"a": "a = 3", "z": "z = 0", "big": "big = 9223372036854775807", "none": "none = nil", "text": 'text = "x"'}
+SET = {"a": "a = 3", "z": "z = 0", "big": "big = 9223372036854775807", "none": "none = nil", "text": 'text = "x"',
+       "long": 'long = "%s"' % ("x" * 1000)}
 # Two operands: numbers, what is none, what is not there, and an operator in place of either.
 OPERANDS = [("a", "2"), ("7", "a"), ("a", "a"), ("none", "a"), ("a", "none"), ("text", "1"), ("2", "text"), ("lost", "a"), ("a", "lost"),
-            ("big", "a"), ("(a + 1)", "2"), ("2", "(a * 2)"), ("(a - z)", "(z - a)"), ("(big + 1)", "a"), ("a", "(none + 1)")]
+            ("big", "a"), ("(a + 1)", "2"), ("2", "(a * 2)"), ("(a - z)", "(z - a)"), ("(big + 1)", "a"), ("a", "(none + 1)"),
+            ("text", '"y"'), ('"y"', "text"), ('""', '"z"'), ("long", "text"), ("long", "long"), ("text", "none"), ("lost", "text"), ("text", "(text ++ text)")]
 OPERATORS = ["+", "-", "*", "<", "==", "++"]
 USES = ["print %s", "b = %s\nprint b", "if %s then print 1 else print 2 end", "print not (%s)", "(%s).m"]
 LOOPS = [
@@ -27,6 +29,8 @@ LOOPS = [
     "i = 1\nwhile 0 < i do i = i * 4611686018427387904 end",
     "while a do a = none end\nprint a",
     "print if a < 4 then a + 1 else z - 1 end + 2",
+    'while not (text == "xyyy") do text = text ++ "y" end\nprint text',
+    "while 0 < a do long = long ++ long; a = a - 1 end",
 ]
 
 
