@@ -11,6 +11,7 @@ ghost use Rattle.hb_run.specs.Going.{Went};
 
 use hb_call::Share;
 use hb_eval::machine::{Machine, Turn};
+use hb_eval::pace::Far;
 use hb_names::Names;
 use hb_tables::desk::Desk;
 use hb_tree::program::Program;
@@ -39,7 +40,7 @@ pub fn run_to_end<D: Desk, N: Names>(
     // Nothing is collected of its checks.
     let mut share = Share::Off;
     loop {
-        match machine.advance(alloc, prog, desk, names, &mut share)? {
+        match machine.advance::<Far, D, N>(alloc, prog, desk, names, &mut share)? {
             Turn::More => {}
             Turn::Ended => return Ok(()),
         }
