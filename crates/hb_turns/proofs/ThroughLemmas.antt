@@ -65,16 +65,16 @@ own_parts c x y z p q own =
 
 -- ── the numbers of a turn ──
 
-pub number_more : (over : Bool) (was now : Machine) → over ≡ false → HasBegun turn.More was now → (turns : ℕ) → IsNumbered over was.state.begun turns → IsNumbered over now.state.begun (turns + 1)
+pub number_more : (over : Bool) (was now : Machine) → over ≡ false → HasBegun false turn.More was now → (turns : ℕ) → IsNumbered over was.state.begun turns → IsNumbered over now.state.begun (turns + 1)
 number_more over was now goes began turns is =
     let before : was.state.begun ≡ turns = subst (λ (o : Bool). IsNumbered o was.state.begun turns) goes is in
     subst (λ (o : Bool). IsNumbered o now.state.begun (turns + 1)) (sym goes) (began ∙ ap (λ (n : ℕ). n + 1) before)
 
-pub number_ended : (over : Bool) (was now : Machine) → over ≡ false → IsGoing was → HasBegun turn.Ended was now
+pub number_ended : (over : Bool) (was now : Machine) → over ≡ false → IsGoing was → HasBegun false turn.Ended was now
     → (turns : ℕ) → IsNumbered over was.state.begun turns → IsNumbered true now.state.begun (turns + 1)
 number_ended over was now goes going began turns is = by (subst (λ (o : Bool). IsNumbered o was.state.begun turns) goes is) began
   where
-    by : was.state.begun ≡ turns → HasBegun turn.Ended was now → IsNumbered true now.state.begun (turns + 1)
+    by : was.state.begun ≡ turns → HasBegun false turn.Ended was now → IsNumbered true now.state.begun (turns + 1)
     by here (inl one) = inl (one ∙ ap (λ (n : ℕ). n + 1) here, omega arith)
     by here (inr none) =
         let nothing : was.state.begun ≡ 0 = (subst (λ (h : Hand). IsNext h was.state.begun was.conts.items) none.1 going).0 in

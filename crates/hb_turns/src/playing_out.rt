@@ -16,6 +16,7 @@ use crate::player::Player;
 use hb_call::Share;
 use hb_eval::machine::Turn;
 use hb_eval::noting::Lent;
+use hb_eval::pace::One;
 use hb_names::PlainNames;
 use hb_tables::desk::Desk;
 use hb_tables::plain::PlainTables;
@@ -49,7 +50,7 @@ fn take_turns<D: Desk>(
     loop {
         match player
             .machine
-            .advance_unnoted(alloc, prog, desk, names, share)?
+            .advance_unnoted::<One, _, _>(alloc, prog, desk, names, share)?
         {
             Turn::More => {}
             Turn::Ended => break,

@@ -1,4 +1,4 @@
-use Rattle.std.proofs.Common.{◌+◌, Bool, None, true, sym, ◌∙◌, subst}
+use Rattle.std.proofs.Common.{◌+◌, Bool, None, true, false, sym, ◌∙◌, subst}
 use Rattle.hb_tables.specs.Answers.{Fixed}
 use Rattle.hb_call.specs.OwnCache.{IsTrueCache}
 use Rattle.hb_eval.specs.Holding.{Holding, frames_of}
@@ -33,7 +33,7 @@ loop-preserved g c =
     let came = c.in_ok-advance_unnoted.ensures in
     let stays = c.advance_unnoted.ensures.stays in
     let turned = subst (λ (turn : Turn). Turns turn c.loop.player.machine c.advance_unnoted.new.self) c.in-More.is came.turn in
-    let begun = subst (λ (turn : Turn). HasBegun turn c.loop.player.machine c.advance_unnoted.new.self) c.in-More.is came.begun in
+    let begun = subst (λ (turn : Turn). HasBegun false turn c.loop.player.machine c.advance_unnoted.new.self) c.in-More.is came.begun in
     let at = subst (λ (o : Bool). IsAt o c.advance_unnoted.new.self) (sym inv.0) turned.0 in
     let whole = stays_on _ _ _ _ _ _ _ _ _ inv.6 stays in (
       inv.0,
@@ -60,7 +60,7 @@ returns-clause-goes g c =
     let came = c.in_ok-advance_unnoted.ensures in
     let stays = c.advance_unnoted.ensures.stays in
     let turned = subst (λ (turn : Turn). Turns turn c.loop.player.machine c.advance_unnoted.new.self) c.in-Ended.is came.turn in
-    let begun = subst (λ (turn : Turn). HasBegun turn c.loop.player.machine c.advance_unnoted.new.self) c.in-Ended.is came.begun in
+    let begun = subst (λ (turn : Turn). HasBegun false turn c.loop.player.machine c.advance_unnoted.new.self) c.in-Ended.is came.begun in
     through_turn _ _ _ _ _ _ _ _ _ _ c.args.player.now c.loop.player (record { machine = c.advance_unnoted.new.self; over = true }) inv.6 inv.7 stays
     (stays_on _ _ _ _ _ _ _ _ _ inv.6 stays) came.fine came.holding came.own came.grown c.advance_unnoted.ensures.caller c.advance_unnoted.ensures.keeps came.stands inv.0 turned
     (number_ended c.loop.player.over c.loop.player.machine c.advance_unnoted.new.self inv.0 inv.1 begun)
