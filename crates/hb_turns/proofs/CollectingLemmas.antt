@@ -13,7 +13,7 @@ use Rattle.hb_tables.specs.History.{entry}
 use Rattle.hb_call.specs.GrowthLaws.{prefix_itself, prefix_more}
 use Rattle.hb_call.specs.declared.share.Share.{Share}
 use Rattle.hb_call.specs.Sharing.{collected}
-use Rattle.hb_eval.specs.Gathering.{Gathers, GathersOne, Shares}
+use Rattle.hb_eval.specs.Gathering.{Gathers, Shares}
 use Rattle.hb_eval.specs.Staying.{Stays}
 use Rattle.hb_eval.proofs.GatheringLemmas.{one_longer, shares_on}
 use Rattle.hb_turns.specs.Collecting.{AreCollected, Collects}

@@ -7,8 +7,9 @@ use Rattle.hb_tables.specs.declared.entry.Entry.{Entry}
 use Rattle.hb_run.specs.History.{callers_from}
 use Rattle.hb_call.specs.GrowthLaws.{prefix_itself, prefix_more}
 use Rattle.hb_turns.specs.declared.player.Player.{Player}
+use Rattle.hb_turns.specs.Playing.{and_idle}
 use Rattle.hb_turns.specs.Players.{AreOver, Follows, GoOn, GoesOne, HaveGone, IsInOrder, TookTurn}
-use Rattle.hb_turns.proofs.OrderLemmas.{order_passes, order_rests, order_takes, passes_over, passes_unknown}
+use Rattle.hb_turns.proofs.OrderLemmas.{order_idle, order_passes, order_rests, order_takes, passes_over, passes_unknown}
 use Rattle.hb_turns.proofs.PlayerLemmas.{set_length}
 
 pub gone_passes : (t : Table) (limit c : ℕ) (order rest : List ℕ) (names longer : List Name) (old new : List Entry) (was now : List Player) → (c ≡ 0) ⊎ (length now < c)
@@ -21,13 +22,13 @@ gone_passes t limit c order rest names longer old new was now unknown g = record
   many = g.many;
 }
 
--- a turn comes to those that were taken
-abbrev gone_took : (t : Table) (limit at : ℕ) (order before rest : List ℕ) (names mid longer : List Name) (old between new : List Entry) (was ps now : List Player)
-    → (g : HaveGone t limit order before names mid old between was ps) → (u : TookTurn t limit 1 at mid longer between new ps now)
-    → IsInOrder order rest (callers_from 1 t.scripts) (g.turns ++ u.turn ∷ []) now
+-- a turn, and idle ones before it, come to those that were taken
+abbrev gone_took : (t : Table) (limit at idle : ℕ) (order before rest : List ℕ) (names mid longer : List Name) (old between new : List Entry) (was ps now : List Player)
+    → (g : HaveGone t limit order before names mid old between was ps) → (u : TookTurn t limit 1 at idle mid longer between new ps now)
+    → IsInOrder order rest (callers_from 1 t.scripts) (and_idle u.turn.caller idle g.turns ++ u.turn ∷ []) now
     → HaveGone t limit order rest names longer old new was now
-gone_took t limit at order before rest names mid longer old between new was ps now g u in_order = record {
-  turns = g.turns ++ u.turn ∷ [];
+gone_took t limit at idle order before rest names mid longer old between new was ps now g u in_order = record {
+  turns = and_idle u.turn.caller idle g.turns ++ u.turn ∷ [];
   named = prefix_more names mid longer g.named u.named;
   played = λ steps start h. u.played steps start g.turns (g.played steps start h);
   in_order = in_order;
@@ -49,18 +50,19 @@ gone_goes t limit c at order rest names mid longer old between new was ps now is
     (subst (λ (x : List Name). HaveGone t limit order rest names x old new was ps) (sym over.4)
     (subst (λ (x : List Entry). HaveGone t limit order rest names mid old x was ps) (sym over.5) on))
 gone_goes t limit c at order rest names mid longer old between new was ps now is g (inr u) =
-    gone_took t limit at order (c ∷ rest) rest names mid longer old between new was ps now g u
+    gone_took t limit at 0 order (c ∷ rest) rest names mid longer old between new was ps now g u
     (subst (λ (x : List Player). IsInOrder order rest (callers_from 1 t.scripts) (g.turns ++ u.turn ∷ []) x) (sym u.moved)
     (order_takes order rest (callers_from 1 t.scripts) g.turns u.turn at ps u.before u.player u.mine u.there u.goes_on
     (subst (λ (d : ℕ). IsInOrder order (d ∷ rest) (callers_from 1 t.scripts) g.turns ps) (is ∙ sym u.mine) g.in_order)))
 
-pub gone_rests : (t : Table) (limit at : ℕ) (order : List ℕ) (names mid longer : List Name) (old between new : List Entry) (was ps now : List Player) → length t.scripts ≡ length ps → at < length ps → AreOver at ps
-    → HaveGone t limit order [] names mid old between was ps → TookTurn t limit 1 at mid longer between new ps now
+pub gone_rests : (t : Table) (limit at idle : ℕ) (order : List ℕ) (names mid longer : List Name) (old between new : List Entry) (was ps now : List Player)
+    → length t.scripts ≡ length ps → at < length ps → AreOver at ps → HaveGone t limit order [] names mid old between was ps → TookTurn t limit 1 at idle mid longer between new ps now
     → HaveGone t limit order [] names longer old new was now
-gone_rests t limit at order names mid longer old between new was ps now many below over g u =
-    gone_took t limit at order [] [] names mid longer old between new was ps now g u
-    (subst (λ (x : List Player). IsInOrder order [] (callers_from 1 t.scripts) (g.turns ++ u.turn ∷ []) x) (sym u.moved)
-    (order_rests order t.scripts g.turns u.turn at ps u.before u.player u.mine u.there u.goes_on many below over g.in_order))
+gone_rests t limit at idle order names mid longer old between new was ps now many below over g u =
+    gone_took t limit at idle order [] [] names mid longer old between new was ps now g u
+    (subst (λ (x : List Player). IsInOrder order [] (callers_from 1 t.scripts) (and_idle u.turn.caller idle g.turns ++ u.turn ∷ []) x) (sym u.moved)
+    (order_rests order t.scripts (and_idle u.turn.caller idle g.turns) u.turn at ps u.before u.player u.mine u.there u.goes_on many below over
+    (order_idle order t.scripts g.turns u.turn.caller idle at ps u.before u.mine u.there u.goes_on many below over g.in_order)))
 
 -- the players before a place stay over where the one at the place moves
 pub over_stays : (at : ℕ) (ps : List Player) (q : Player) → AreOver at ps → AreOver at (slice_set ps at q)
@@ -107,11 +109,11 @@ goes_on t limit a b c x y z p q r g h = record {
   many = h.many ∙ g.many;
 }
 
-pub goes_turn : (t : Table) (limit at : ℕ) (names longer : List Name) (old new : List Entry) (was now : List Player) → length t.scripts ≡ length was → at < length was → AreOver at was
-    → TookTurn t limit 1 at names longer old new was now → GoOn t limit names longer old new was now
-goes_turn t limit at names longer old new was now many below over u = record {
-  gone = λ order first start all g. gone_rests t limit at order first names longer start old new all was now many below over g u;
-  played = λ steps start us h. (us ++ u.turn ∷ [], u.played steps start us h);
+pub goes_turn : (t : Table) (limit at idle : ℕ) (names longer : List Name) (old new : List Entry) (was now : List Player) → length t.scripts ≡ length was → at < length was → AreOver at was
+    → TookTurn t limit 1 at idle names longer old new was now → GoOn t limit names longer old new was now
+goes_turn t limit at idle names longer old new was now many below over u = record {
+  gone = λ order first start all g. gone_rests t limit at idle order first names longer start old new all was now many below over g u;
+  played = λ steps start us h. (and_idle u.turn.caller idle us ++ u.turn ∷ [], u.played steps start us h);
   named = u.named;
   many = ap length u.moved ∙ set_length was at u.player;
 }

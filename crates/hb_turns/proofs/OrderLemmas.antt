@@ -7,9 +7,9 @@ use Rattle.hb_types.specs.declared.ids.NodeId.{NodeId}
 use Rattle.hb_types.specs.declared.ids.NameId.{NameId}
 use Rattle.hb_run.specs.History.{callers_from}
 use Rattle.hb_turns.specs.declared.player.Player.{Player}
-use Rattle.hb_turns.specs.Playing.{Taken, turns_by}
+use Rattle.hb_turns.specs.Playing.{Taken, and_idle, turns_by}
 use Rattle.hb_turns.specs.Players.{AreOver, IsInOrder, IsLeft, MayBeLeft, less, turn_order, turns_left}
-use Rattle.hb_turns.proofs.PlayerLemmas.{turns_more}
+use Rattle.hb_turns.proofs.PlayerLemmas.{set_itself, turns_more}
 
 -- ── the order goes by how many turns there are, however that is said ──
 
@@ -164,6 +164,17 @@ order_rests order ss us u at ps p q mine there goes many below over before = λ 
     all_turns us u left order (callers_from 1 ss) ∙ before l zero' may' ∙ ap (λ (x : List ℕ). map (λ (w : Taken). w.caller) us ++ x) next
     ∙ sym (append_assoc (map (λ (w : Taken). w.caller) us) (u.caller ∷ []) (turns_left left (callers_from 1 ss)))
     ∙ ap (λ (x : List ℕ). x ++ turns_left left (callers_from 1 ss)) (sym (map-append (λ (w : Taken). w.caller) us (u ∷ [])))
+
+-- idle turns come to those that are taken, where nothing is left of the order
+pub order_idle : (order : List ℕ) (ss : List (NameId × NodeId)) (us : List Taken) (c idle at : ℕ) (ps : List Player) (p : Player) → c ≡ 1 + at → slice_get ps at ≡ Some p → p.over ≡ false
+    → length ss ≡ length ps → at < length ps → AreOver at ps
+    → IsInOrder order [] (callers_from 1 ss) us ps → IsInOrder order [] (callers_from 1 ss) (and_idle c idle us) ps
+order_idle order ss us c zero at ps p mine there goes many below over before = before
+order_idle order ss us c (suc idle) at ps p mine there goes many below over before =
+    let u : Taken = record { caller = c; begun = turns_by c us + 1; acts = [] } in
+    order_idle order ss (us ++ u ∷ []) c idle at ps p mine there goes many below over
+    (subst (λ (l : List Player). IsInOrder order [] (callers_from 1 ss) (us ++ u ∷ []) l) (sym (set_itself at ps p there))
+    (order_rests order ss us u at ps p p mine there goes many below over before))
 
 -- where all are over none is left
 pub order_ends : (order : List ℕ) (ss : List (NameId × NodeId)) (us : List Taken) (ps : List Player) → AreOver (length ps) ps

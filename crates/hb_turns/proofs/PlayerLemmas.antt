@@ -11,7 +11,7 @@ use Rattle.hb_tables.specs.declared.entry.Entry.{Entry}
 use Rattle.hb_call.specs.GrowthLaws.{prefix_itself, prefix_more}
 use Rattle.hb_eval.specs.State.{tagged}
 use Rattle.hb_turns.specs.declared.player.Player.{Player}
-use Rattle.hb_turns.specs.Playing.{AreNumbered, Came, HasNumber, IsAt, IsNumbered, IsUnderWay, Plays, Taken, Took, acts_by, entries_by, entries_of, turns_by}
+use Rattle.hb_turns.specs.Playing.{AreNumbered, Came, HasNumber, IsAt, IsNumbered, IsUnderWay, Plays, Taken, Took, acts_by, and_idle, entries_by, entries_of, turns_by}
 use Rattle.hb_turns.specs.Players.{ArePlayers, IsPlayer, StoodAtLast, StoodThen, TookTurn}
 use Rattle.hb_turns.proofs.PlayingLemmas.{others_acts, own_came, plays_on}
 
@@ -64,42 +64,53 @@ player_at t steps c names log us (q ∷ ps) (suc at) p are is =
     let there : suc c + at ≡ c + suc at = omega arith in
     subst (λ (d : ℕ). IsPlayer t steps d names log us p) there (player_at t steps (suc c) names log us ps at p are.1 is)
 
--- a player whose caller did nothing
-stays_player : (t : Table) (steps c : ℕ) (u : Taken) (names longer : List Name) (old new : List Entry) (us : List Taken) (p : Player) → c ≢ u.caller → Came u.caller u.acts old new → IsPrefix names longer
-    → IsPlayer t steps c names old us p → IsPlayer t steps c longer new (us ++ u ∷ []) p
-stays_player t steps c u names longer old new us p apart came more x = record {
-  plays = subst (λ (done : List (ℕ × Act)). Plays t steps c longer new done p.machine) (sym same)
-      (plays_on t steps u.caller c u.acts names longer old new (acts_by c us) p.machine (λ is. apart (sym is)) came more x.plays);
-  at = x.at;
-  numbered = subst (λ (n : ℕ). IsNumbered p.over p.machine.state.begun n) (sym (turn_other c us u apart)) x.numbered;
-}
-  where
-    same : acts_by c (us ++ u ∷ []) ≡ acts_by c us
-    same = acts_more c us u ∙ ap (λ (l : List (ℕ × Act)). acts_by c us ++ l) (other_by c u apart) ∙ append-nil (acts_by c us)
+-- only this caller took the turns that came
+abbrev IsOnlyBy : (b : ℕ) → (us vs : List Taken) → Type 0
+IsOnlyBy b us vs = (d : ℕ) → d ≢ b → (acts_by d vs ≡ acts_by d us) × (turns_by d vs ≡ turns_by d us)
 
-stay_players : (t : Table) (steps c : ℕ) (u : Taken) (names longer : List Name) (old new : List Entry) (us : List Taken) (ps : List Player) → u.caller < c → Came u.caller u.acts old new → IsPrefix names longer
-    → ArePlayers t steps c names old us ps → ArePlayers t steps c longer new (us ++ u ∷ []) ps
-stay_players t steps c u names longer old new us [] below came more are = tt
-stay_players t steps c u names longer old new us (p ∷ ps) below came more are =
-    (stays_player t steps c u names longer old new us p (λ is. omega (arith, is, below)) came more are.0, stay_players t steps (suc c) u names longer old new us ps (omega (arith, below)) came more are.1)
+-- a player whose caller did nothing
+stays_player : (t : Table) (steps c b : ℕ) (more : List Act) (names longer : List Name) (old new : List Entry) (us vs : List Taken) (p : Player) → c ≢ b → IsOnlyBy b us vs → Came b more old new
+    → IsPrefix names longer → IsPlayer t steps c names old us p → IsPlayer t steps c longer new vs p
+stays_player t steps c b more names longer old new us vs p apart only came on x =
+    let same = only c apart in
+    record {
+      plays = subst (λ (done : List (ℕ × Act)). Plays t steps c longer new done p.machine) (sym same.0)
+          (plays_on t steps b c more names longer old new (acts_by c us) p.machine (λ is. apart (sym is)) came on x.plays);
+      at = x.at;
+      numbered = subst (λ (n : ℕ). IsNumbered p.over p.machine.state.begun n) (sym same.1) x.numbered;
+    }
+
+stay_players : (t : Table) (steps c b : ℕ) (more : List Act) (names longer : List Name) (old new : List Entry) (us vs : List Taken) (ps : List Player) → b < c → IsOnlyBy b us vs → Came b more old new
+    → IsPrefix names longer → ArePlayers t steps c names old us ps → ArePlayers t steps c longer new vs ps
+stay_players t steps c b more names longer old new us vs [] below only came on are = tt
+stay_players t steps c b more names longer old new us vs (p ∷ ps) below only came on are = (
+  stays_player t steps c b more names longer old new us vs p (λ is. omega (arith, is, below)) only came on are.0,
+  stay_players t steps (suc c) b more names longer old new us vs ps (omega (arith, below)) only came on are.1,
+)
 
 -- the player at a place moved, and the others stay
-pub moved_players : (t : Table) (steps c at : ℕ) (u : Taken) (names longer : List Name) (old new : List Entry) (us : List Taken) (ps : List Player) (q : Player) → u.caller ≡ c + at
-    → at < length ps → Came u.caller u.acts old new → IsPrefix names longer
-    → IsPlayer t steps (c + at) longer new (us ++ u ∷ []) q → ArePlayers t steps c names old us ps → ArePlayers t steps c longer new (us ++ u ∷ []) (slice_set ps at q)
-moved_players t steps c at u names longer old new us [] q mine below came more x are = absurd (omega (arith, below))
-moved_players t steps c zero u names longer old new us (p ∷ ps) q mine below came more x are =
+moved_players : (t : Table) (steps c at b : ℕ) (more : List Act) (names longer : List Name) (old new : List Entry) (us vs : List Taken) (ps : List Player) (q : Player) → b ≡ c + at
+    → at < length ps → IsOnlyBy b us vs → Came b more old new → IsPrefix names longer
+    → IsPlayer t steps (c + at) longer new vs q → ArePlayers t steps c names old us ps → ArePlayers t steps c longer new vs (slice_set ps at q)
+moved_players t steps c at b more names longer old new us vs [] q mine below only came on x are = absurd (omega (arith, below))
+moved_players t steps c zero b more names longer old new us vs (p ∷ ps) q mine below only came on x are =
     let here : c + 0 ≡ c = omega arith in
-    (subst (λ (d : ℕ). IsPlayer t steps d longer new (us ++ u ∷ []) q) here x, stay_players t steps (suc c) u names longer old new us ps (omega (arith, mine)) came more are.1)
-moved_players t steps c (suc at) u names longer old new us (p ∷ ps) q mine below came more x are =
+    (subst (λ (d : ℕ). IsPlayer t steps d longer new vs q) here x, stay_players t steps (suc c) b more names longer old new us vs ps (omega (arith, mine)) only came on are.1)
+moved_players t steps c (suc at) b more names longer old new us vs (p ∷ ps) q mine below only came on x are =
     let there : c + suc at ≡ suc c + at = omega arith in (
-      stays_player t steps c u names longer old new us p (λ is. omega (arith, is, mine)) came more are.0,
-      moved_players t steps (suc c) at u names longer old new us ps q (mine ∙ there) (omega (arith, below)) came more (subst (λ (d : ℕ). IsPlayer t steps d longer new (us ++ u ∷ []) q) there x) are.1,
+      stays_player t steps c b more names longer old new us vs p (λ is. omega (arith, is, mine)) only came on are.0,
+      moved_players t steps (suc c) at b more names longer old new us vs ps q (mine ∙ there) (omega (arith, below)) only came on
+          (subst (λ (d : ℕ). IsPlayer t steps d longer new vs q) there x) are.1,
     )
 
 pub set_length : (ps : List Player) (at : ℕ) (q : Player) → length (slice_set ps at q) ≡ length ps
 set_length (p ∷ ps) (suc at) q = let rest = set_length ps at q in omega (arith, rest)
 set_length _ _ _ = refl
+
+pub set_itself : (at : ℕ) (ps : List Player) (p : Player) → slice_get ps at ≡ Some p → ps ≡ slice_set ps at p
+set_itself at [] p is = absurd cc
+set_itself zero (x ∷ ps) p is = let same : x ≡ p = cc is in ap (λ (y : Player). y ∷ ps) same
+set_itself (suc at) (x ∷ ps) p is = ap (λ (l : List Player). x ∷ l) (set_itself at ps p is)
 
 last_or : (ws xs after : List Taken) (u x : Taken) → ws ++ u ∷ [] ≡ xs ++ x ∷ after → ((ws ≡ xs) × (u ≡ x)) ⊎ ((a : List Taken) × (ws ≡ xs ++ x ∷ a))
 last_or [] [] after u x e = inl (refl, cc e)
@@ -139,8 +150,9 @@ set_other _ _ _ _ _ = refl
 -- Where a turn comes, it is its caller's last one, and what was so for the others' last ones stays so.
 stood_more : (t : Table) (limit steps first at : ℕ) (start : List Entry) (us : List Taken) (w : Taken) (names longer : List Name) (new : List Entry) (ps : List Player) (q : Player)
     → w.caller ≡ first + at → at < length ps → IsPrefix names longer → new ≡ start ++ entries_of (us ++ w ∷ []) → IsUnderWay t limit longer new
-    → IsPlayer t steps (first + at) longer new (us ++ w ∷ []) q → StoodAtLast t limit steps first start us names ps → StoodAtLast t limit steps first start (us ++ w ∷ []) longer (slice_set ps at q)
-stood_more t limit steps first at start us w names longer new ps q mine below more log under_way moved stood before after x is none = elim (last_or us before after w x is) [
+    → Plays t steps (first + at) longer new (acts_by (first + at) (us ++ w ∷ [])) q.machine
+    → StoodAtLast t limit steps first start us names ps → StoodAtLast t limit steps first start (us ++ w ∷ []) longer (slice_set ps at q)
+stood_more t limit steps first at start us w names longer new ps q mine below more log under_way plays stood before after x is none = elim (last_or us before after w x is) [
   | inl h ↦ subst (λ (y : Taken). StoodThen t limit steps first y.caller start (before ++ y ∷ []) longer (slice_set ps at q)) h.1
       (subst (λ (b : List Taken). StoodThen t limit steps first w.caller start (b ++ w ∷ []) longer (slice_set ps at q)) h.0 last)
   | inr h ↦ earlier h.0 h.1
@@ -156,7 +168,7 @@ stood_more t limit steps first at start us w names longer new ps q mine below mo
       named = prefix_itself longer;
       under_way = subst (IsUnderWay t limit longer) log under_way;
       plays = subst (λ (l : List Entry). Plays t steps w.caller longer l (acts_by w.caller (us ++ w ∷ [])) q.machine) log
-          (subst (λ (c : ℕ). Plays t steps c longer new (acts_by c (us ++ w ∷ [])) q.machine) (sym mine) moved.plays);
+          (subst (λ (c : ℕ). Plays t steps c longer new (acts_by c (us ++ w ∷ [])) q.machine) (sym mine) plays);
     }
 
     earlier : (a : List Taken) → us ≡ before ++ x ∷ a → StoodThen t limit steps first x.caller start (before ++ x ∷ []) longer (slice_set ps at q)
@@ -179,12 +191,72 @@ stood_more t limit steps first at start us w names longer new ps q mine below mo
           plays = s.plays;
         }
 
-pub took_turn : (t : Table) (limit first at : ℕ) (names longer : List Name) (old new : List Entry) (ps : List Player) (p q : Player) → slice_get ps at ≡ Some p → at < length ps → p.over ≡ false
+-- ── idle turns ──
+
+-- a caller's next turn, in which nothing comes
+abbrev next_idle : (c : ℕ) → List Taken → Taken
+next_idle c us = record { caller = c; begun = turns_by c us + 1; acts = [] }
+
+no_acts : (d c n : ℕ) → acts_by d (record { caller = c; begun = n; acts = [] } ∷ []) ≡ []
+no_acts d c n = go (eqb d c)
+  where
+    go : (own : Bool) → cond own (tagged n [] ++ []) [] ≡ []
+    go true = refl
+    go false = refl
+
+next_acts : (d c : ℕ) (us : List Taken) → acts_by d (us ++ next_idle c us ∷ []) ≡ acts_by d us
+next_acts d c us = acts_more d us (next_idle c us) ∙ ap (λ (l : List (ℕ × Act)). acts_by d us ++ l) (no_acts d c (turns_by c us + 1)) ∙ append-nil (acts_by d us)
+
+next_entries : (c : ℕ) (us : List Taken) → entries_of (us ++ next_idle c us ∷ []) ≡ entries_of us
+next_entries c us = entries_more us (next_idle c us) ∙ append-nil (entries_of us)
+
+idle_acts : (d c many : ℕ) (us : List Taken) → acts_by d (and_idle c many us) ≡ acts_by d us
+idle_acts d c zero us = refl
+idle_acts d c (suc many) us = idle_acts d c many (us ++ next_idle c us ∷ []) ∙ next_acts d c us
+
+idle_entries : (c many : ℕ) (us : List Taken) → entries_of (and_idle c many us) ≡ entries_of us
+idle_entries c zero us = refl
+idle_entries c (suc many) us = idle_entries c many (us ++ next_idle c us ∷ []) ∙ next_entries c us
+
+idle_mine : (c many : ℕ) (us : List Taken) → turns_by c (and_idle c many us) ≡ turns_by c us + many
+idle_mine c zero us = omega arith
+idle_mine c (suc many) us = let rest = idle_mine c many (us ++ next_idle c us ∷ []) in let one = turn_mine c us (next_idle c us) refl in omega (arith, rest, one)
+
+idle_other : (d c many : ℕ) (us : List Taken) → d ≢ c → turns_by d (and_idle c many us) ≡ turns_by d us
+idle_other d c zero us apart = refl
+idle_other d c (suc many) us apart = idle_other d c many (us ++ next_idle c us ∷ []) apart ∙ turn_other d us (next_idle c us) apart
+
+idle_numbers : (c many : ℕ) (us : List Taken) → AreNumbered us → AreNumbered (and_idle c many us)
+idle_numbers c zero us all = all
+idle_numbers c (suc many) us all = idle_numbers c many (us ++ next_idle c us ∷ []) (numbers_more us (next_idle c us) all (inl refl))
+
+-- a player that stands where it stood does so behind its idle turns
+idle_stood : (t : Table) (limit steps first at many : ℕ) (start : List Entry) (us : List Taken) (names : List Name) (log : List Entry) (ps : List Player) (p : Player)
+    → slice_get ps at ≡ Some p → at < length ps → log ≡ start ++ entries_of us → IsUnderWay t limit names log → Plays t steps (first + at) names log (acts_by (first + at) us) p.machine
+    → StoodAtLast t limit steps first start us names ps → StoodAtLast t limit steps first start (and_idle (first + at) many us) names ps
+idle_stood t limit steps first at zero start us names log ps p there below is under_way plays stood = stood
+idle_stood t limit steps first at (suc many) start us names log ps p there below is under_way plays stood =
+    let c = first + at in
+    let w = next_idle c us in
+    let is' : log ≡ start ++ entries_of (us ++ w ∷ []) = is ∙ ap (λ (l : List Entry). start ++ l) (sym (next_entries c us)) in
+    let plays' : Plays t steps c names log (acts_by c (us ++ w ∷ [])) p.machine = subst (λ (l : List (ℕ × Act)). Plays t steps c names log l p.machine) (sym (next_acts c c us)) plays in
+    idle_stood t limit steps first at many start (us ++ w ∷ []) names log ps p there below is' under_way plays'
+    (subst (λ (l : List Player). StoodAtLast t limit steps first start (us ++ w ∷ []) names l) (sym (set_itself at ps p there))
+    (stood_more t limit steps first at start us w names names log ps p refl below (prefix_itself names) is' under_way plays' stood))
+
+only_turns : (b many : ℕ) (us : List Taken) (u : Taken) → u.caller ≡ b → IsOnlyBy b us (and_idle b many us ++ u ∷ [])
+only_turns b many us u mine d apart =
+    let other : d ≢ u.caller = λ is. apart (is ∙ mine) in (
+      acts_more d (and_idle b many us) u ∙ ap (λ (l : List (ℕ × Act)). acts_by d (and_idle b many us) ++ l) (other_by d u other) ∙ append-nil (acts_by d (and_idle b many us)) ∙ idle_acts d b many us,
+      turn_other d (and_idle b many us) u other ∙ idle_other d b many us apart,
+    )
+
+pub took_turn : (t : Table) (limit first at idle : ℕ) (names longer : List Name) (old new : List Entry) (ps : List Player) (p q : Player) → slice_get ps at ≡ Some p → at < length ps → p.over ≡ false
     → Took t (first + at) names longer old new p.machine q.machine → IsUnderWay t limit longer new → IsAt q.over q.machine
-    → ((turns : ℕ) → IsNumbered p.over p.machine.state.begun turns → IsNumbered q.over q.machine.state.begun (turns + 1))
+    → ((turns : ℕ) → IsNumbered p.over p.machine.state.begun turns → IsNumbered q.over q.machine.state.begun (turns + idle + 1))
     → IsPrefix names longer
-    → TookTurn t limit first at names longer old new ps (slice_set ps at q)
-took_turn t limit first at names longer old new ps p q is below goes_on took under_way here numbered more = record {
+    → TookTurn t limit first at idle names longer old new ps (slice_set ps at q)
+took_turn t limit first at idle names longer old new ps p q is below goes_on took under_way here numbered more = record {
   turn = u;
   mine = refl;
   named = more;
@@ -195,22 +267,29 @@ took_turn t limit first at names longer old new ps p q is below goes_on took und
   moved = refl;
   numbered = numbered;
   played = λ steps start us had.
+      let c = first + at in
+      let ws = and_idle c idle us in
       let x = player_at t steps first names old us ps at p had.players is in
-      let done : acts_by (first + at) (us ++ u ∷ []) ≡ acts_by (first + at) us ++ tagged q.machine.state.begun took.more =
-      acts_more (first + at) us u ∙ ap (λ (l : List (ℕ × Act)). acts_by (first + at) us ++ l) (mine_by (first + at) u refl) in
-      let moved : IsPlayer t steps (first + at) longer new (us ++ u ∷ []) q = record {
-        plays = subst (λ (l : List (ℕ × Act)). Plays t steps (first + at) longer new l q.machine) (sym done) (took.plays steps (acts_by (first + at) us) x.plays);
+      let done : acts_by c (ws ++ u ∷ []) ≡ acts_by c us ++ tagged q.machine.state.begun took.more =
+      acts_more c ws u ∙ ap (λ (l : List (ℕ × Act)). l ++ acts_by c (u ∷ [])) (idle_acts c c idle us) ∙ ap (λ (l : List (ℕ × Act)). acts_by c us ++ l) (mine_by c u refl) in
+      let many : turns_by c ws + 1 ≡ turns_by c us + idle + 1 = ap (λ (n : ℕ). n + 1) (idle_mine c idle us) in
+      let number : IsNumbered q.over q.machine.state.begun (turns_by c ws + 1) =
+      subst (λ (n : ℕ). IsNumbered q.over q.machine.state.begun n) (sym many) (numbered (turns_by c us) x.numbered) in
+      let moved : IsPlayer t steps c longer new (ws ++ u ∷ []) q = record {
+        plays = subst (λ (l : List (ℕ × Act)). Plays t steps c longer new l q.machine) (sym done) (took.plays steps (acts_by c us) x.plays);
         at = here;
-        numbered = subst (λ (n : ℕ). IsNumbered q.over q.machine.state.begun n) (sym (turn_mine (first + at) us u refl)) (numbered (turns_by (first + at) us) x.numbered);
+        numbered = subst (λ (n : ℕ). IsNumbered q.over q.machine.state.begun n) (sym (turn_mine c ws u refl)) number;
       } in
-      let log : new ≡ start ++ entries_of (us ++ u ∷ []) = sym took.came.is ∙ ap (λ (l : List Entry). l ++ entries_by (first + at) took.more) had.is
-      ∙ append_assoc start (entries_of us) (entries_by (first + at) took.more) ∙ ap (λ (l : List Entry). start ++ l) (sym (entries_more us u)) in
+      let log : new ≡ start ++ entries_of (ws ++ u ∷ []) = sym took.came.is ∙ ap (λ (l : List Entry). l ++ entries_by c took.more) had.is
+      ∙ append_assoc start (entries_of us) (entries_by c took.more)
+      ∙ ap (λ (l : List Entry). start ++ l) (ap (λ (l : List Entry). l ++ entries_by c took.more) (sym (idle_entries c idle us)) ∙ sym (entries_more ws u)) in
       record {
         is = log;
-        numbers = numbers_more us u had.numbers (turn_number q.over q.machine.state.begun (turns_by (first + at) us) (numbered (turns_by (first + at) us) x.numbered));
+        numbers = numbers_more ws u (idle_numbers c idle us had.numbers) (turn_number q.over q.machine.state.begun (turns_by c ws) number);
         under_way = under_way;
-        players = moved_players t steps first at u names longer old new us ps q refl below took.came more moved had.players;
-        stood = stood_more t limit steps first at start us u names longer new ps q refl below more log under_way moved had.stood;
+        players = moved_players t steps first at c took.more names longer old new us (ws ++ u ∷ []) ps q refl below (only_turns c idle us u refl) took.came more moved had.players;
+        stood = stood_more t limit steps first at start ws u names longer new ps q refl below more log under_way moved.plays
+            (idle_stood t limit steps first at idle start us names old ps p is below had.is had.under_way x.plays had.stood);
         alone = λ none.
             let a = had.alone none in
             let only : first + at ≡ 0 = (let one = a.1 in omega (arith, none, one, below)) in

@@ -1,5 +1,5 @@
 -- How a player goes on through one door.
-use Rattle.std.proofs.Common.{◌≡◌, inl, inr, Bool, ℕ, zero, suc, ◌+◌, ◌<◌, List, [], ◌∷◌, ◌++◌, length, Some, true, false, refl, sym, ap, ◌∙◌, subst, arith, append_assoc}
+use Rattle.std.proofs.Common.{◌≡◌, inl, inr, Bool, ℕ, zero, suc, ◌+◌, ◌-◌, List, [], ◌∷◌, ◌++◌, length, Some, true, false, refl, sym, ap, ◌∙◌, subst, arith, append_assoc}
 use Rattle.std.specs.Prelude.{drop, slice_get, slice_set}
 use mathlib.Core.List.{IsPrefix}
 use Rattle.hb_tree.specs.Table.{Table}
@@ -22,15 +22,10 @@ use Rattle.hb_turns.specs.declared.player.Player.{Player}
 use Rattle.hb_turns.specs.Playing.{IsAt, IsNumbered}
 use Rattle.hb_turns.specs.Players.{GoOn, GoesAmong}
 use Rattle.hb_turns.proofs.GoneLemmas.{goes_itself, goes_on, goes_turn, over_stays}
-use Rattle.hb_turns.proofs.PlayerLemmas.{player_at, set_length, took_turn}
+use Rattle.hb_turns.proofs.PlayerLemmas.{player_at, set_itself, set_length, took_turn}
 use Rattle.hb_turns.proofs.PlayingLemmas.{came_through, took_door, under_way_door}
 
 -- ── a place of a list ──
-
-set_itself : (at : ℕ) (ps : List Player) (p : Player) → slice_get ps at ≡ Some p → ps ≡ slice_set ps at p
-set_itself at [] p is = absurd cc
-set_itself zero (x ∷ ps) p is = let same : x ≡ p = cc is in ap (λ (y : Player). y ∷ ps) same
-set_itself (suc at) (x ∷ ps) p is = ap (λ (l : List Player). x ∷ l) (set_itself at ps p is)
 
 pub set_there : (at : ℕ) (ps : List Player) (p q : Player) → slice_get ps at ≡ Some p → slice_get (slice_set ps at q) at ≡ Some q
 set_there at [] p q is = absurd cc
@@ -65,20 +60,27 @@ own_parts c x y z p q own =
 
 -- ── the numbers of a turn ──
 
-pub number_more : (over : Bool) (was now : Machine) → over ≡ false → HasBegun turn.More was now → (turns : ℕ) → IsNumbered over was.state.begun turns → IsNumbered over now.state.begun (turns + 1)
+-- how many idle turns come before the one in which the machine comes from here to there
+abbrev pub idle_from : (was now : Machine) → ℕ
+idle_from was now = now.state.begun - was.state.begun - 1
+
+pub number_more : (over : Bool) (was now : Machine) → over ≡ false → HasBegun true turn.More was now
+    → (turns : ℕ) → IsNumbered over was.state.begun turns → IsNumbered over now.state.begun (turns + idle_from was now + 1)
 number_more over was now goes began turns is =
     let before : was.state.begun ≡ turns = subst (λ (o : Bool). IsNumbered o was.state.begun turns) goes is in
-    subst (λ (o : Bool). IsNumbered o now.state.begun (turns + 1)) (sym goes) (began ∙ ap (λ (n : ℕ). n + 1) before)
+    let behind : now.state.begun ≡ turns + idle_from was now + 1 = omega (arith, before, began) in
+    subst (λ (o : Bool). IsNumbered o now.state.begun (turns + idle_from was now + 1)) (sym goes) behind
 
-pub number_ended : (over : Bool) (was now : Machine) → over ≡ false → IsGoing was → HasBegun turn.Ended was now
-    → (turns : ℕ) → IsNumbered over was.state.begun turns → IsNumbered true now.state.begun (turns + 1)
+pub number_ended : (over : Bool) (was now : Machine) → over ≡ false → IsGoing was → HasBegun true turn.Ended was now
+    → (turns : ℕ) → IsNumbered over was.state.begun turns → IsNumbered true now.state.begun (turns + idle_from was now + 1)
 number_ended over was now goes going began turns is = by (subst (λ (o : Bool). IsNumbered o was.state.begun turns) goes is) began
   where
-    by : was.state.begun ≡ turns → HasBegun turn.Ended was now → IsNumbered true now.state.begun (turns + 1)
-    by here (inl one) = inl (one ∙ ap (λ (n : ℕ). n + 1) here, omega arith)
+    by : was.state.begun ≡ turns → HasBegun true turn.Ended was now → IsNumbered true now.state.begun (turns + idle_from was now + 1)
+    by here (inl some) = inl (omega (arith, here, some), omega arith)
     by here (inr none) =
         let nothing : was.state.begun ≡ 0 = (subst (λ (h : Hand). IsNext h was.state.begun was.conts.items) none.1 going).0 in
-        inr (none.0 ∙ nothing, omega (arith, here, nothing))
+        let same = none.0 in
+        inr (same ∙ nothing, omega (arith, here, nothing, same))
 
 -- ── the turns ──
 
@@ -86,8 +88,8 @@ pub through_itself : (t : Table) (limit c : ℕ) (names : List Name) (log : List
 through_itself t limit c names log p = λ at ps mine there below many over steps start us had.
     subst (λ (l : List Player). GoOn t limit names names log log ps l) (set_itself at ps p there) (goes_itself t limit names log ps)
 
--- one turn more through the door
-pub through_turn : (t : Table) (door mid latest : Fixed) (names known more : List Name) (log now last : List Entry) (p q r : Player)
+-- one turn more through the door, behind idle ones
+pub through_turn : (t : Table) (idle : ℕ) (door mid latest : Fixed) (names known more : List Name) (log now last : List Entry) (p q r : Player)
     → Stays door mid log now names known → (AreOwn door.caller (drop (length log) now) → GoesAmong t door.limit door.caller names known log now p q)
     → Stays mid latest now last known more → Stays door latest log last names more
     → IsFineMachine t r.machine → Holding mid.caller (r.machine.state.made + 1) (frames_of r.machine.frames.items) last
@@ -95,9 +97,9 @@ pub through_turn : (t : Table) (door mid latest : Fixed) (names known more : Lis
     → r.machine.caller ≡ q.machine.caller → keeps r.machine ≡ keeps q.machine
     → ((block steps : ℕ) (done : List (ℕ × Act)) → StandsFor t known block steps done q.machine
     → (made : List Act) × (acts mid.caller last ≡ acts mid.caller now ++ made) × StandsFor t more block steps (done ++ tagged r.machine.state.begun made) r.machine)
-    → q.over ≡ false → IsAt r.over r.machine → ((turns : ℕ) → IsNumbered q.over q.machine.state.begun turns → IsNumbered r.over r.machine.state.begun (turns + 1))
+    → q.over ≡ false → IsAt r.over r.machine → ((turns : ℕ) → IsNumbered q.over q.machine.state.begun turns → IsNumbered r.over r.machine.state.begun (turns + idle + 1))
     → AreOwn door.caller (drop (length log) last) → GoesAmong t door.limit door.caller names more log last p r
-through_turn t door mid latest names known more log now last p q r first before stays whole fine holding checks grown caller kept turn goes end numbered own =
+through_turn t idle door mid latest names known more log now last p q r first before stays whole fine holding checks grown caller kept turn goes end numbered own =
     λ at ps mine there below many over steps start us had.
     let parts = own_parts door.caller log now last first.kept stays.kept own in
     let g = before parts.0 at ps mine there below many over steps start us had in
@@ -111,7 +113,7 @@ through_turn t door mid latest names known more log now last p q r first before 
     let took = took_door t (1 + at) known more now last q.machine r.machine mid.caller now same refl came fine holding checks caller kept turn in
     let under_way = under_way_door t door.limit (1 + at) known more now last x.plays.block q.machine.state.cache r.machine.state.cache mid.caller now same refl m.1.under_way
     (whole.legal had.under_way.legal) came stays.named stays.few stays.differ grown x.plays.own checks x.plays.runs (λ none. absurd (omega (arith, none))) in
-    let u = took_turn t door.limit 1 at known more now last here q r stands (omega (arith, wide, below)) goes took under_way end numbered stays.named in
+    let u = took_turn t door.limit 1 at idle known more now last here q r stands (omega (arith, wide, below)) goes took under_way end numbered stays.named in
     subst (λ (l : List Player). GoOn t door.limit names more log last ps l) (set_again at ps q r)
     (goes_on t door.limit names known more log now last ps here (slice_set here at r) g
-    (goes_turn t door.limit at known more now last here (slice_set here at r) (omega (arith, many, wide)) (omega (arith, wide, below)) (over_stays at ps q over) u))
+    (goes_turn t door.limit at idle known more now last here (slice_set here at r) (omega (arith, many, wide)) (omega (arith, wide, below)) (over_stays at ps q over) u))

@@ -20,7 +20,7 @@ use Rattle.hb_eval.specs.Told.{Told, told, told_by}
 use Rattle.hb_eval.specs.declared.script_run.ScriptRun.{ScriptRun}
 use Rattle.hb_run.specs.History.{AreRuns, IsHistory, block_of, callers_from}
 use Rattle.hb_turns.specs.declared.player.Player.{Player}
-use Rattle.hb_turns.specs.Playing.{AreNumbered, IsAt, IsNumbered, IsUnderWay, Plays, Taken, acts_by, entries_of, turns_by}
+use Rattle.hb_turns.specs.Playing.{AreNumbered, IsAt, IsNumbered, IsUnderWay, Plays, Taken, acts_by, and_idle, entries_of, turns_by}
 
 -- The caller's player stands where these turns left it.
 pub record IsPlayer (t : Table) (steps c : ℕ) (names : List Name) (log : List Entry) (us : List Taken) (p : Player) : Type 0 where
@@ -59,8 +59,8 @@ pub record HavePlayed (t : Table) (limit steps first : ℕ) (start : List Entry)
   pub alone : first ≡ 0 → AreOwn 0 log × (length ps ≡ 1)
   pub setup : 1 ≤ first → acts 0 log ≡ acts 0 start
 
--- One turn more was taken, by the player at this place. The others stay as they are.
-pub record TookTurn (t : Table) (limit first at : ℕ) (names longer : List Name) (old new : List Entry) (was now : List Player) : Type 0 where
+-- One turn more was taken by the player at this place, behind so many idle ones of its own: its machine is behind all of them. The others stay as they are.
+pub record TookTurn (t : Table) (limit first at idle : ℕ) (names longer : List Name) (old new : List Entry) (was now : List Player) : Type 0 where
   pub turn : Taken
   pub mine : turn.caller ≡ first + at
   pub named : IsPrefix names longer
@@ -69,8 +69,9 @@ pub record TookTurn (t : Table) (limit first at : ℕ) (names longer : List Name
   pub there : slice_get was at ≡ Some before
   pub goes_on : before.over ≡ false
   pub moved : now ≡ slice_set was at player
-  pub numbered : (turns : ℕ) → IsNumbered before.over before.machine.state.begun turns → IsNumbered player.over player.machine.state.begun (turns + 1)
-  pub played : (steps : ℕ) (start : List Entry) (us : List Taken) → HavePlayed t limit steps first start us names old was → HavePlayed t limit steps first start (us ++ turn ∷ []) longer new now
+  pub numbered : (turns : ℕ) → IsNumbered before.over before.machine.state.begun turns → IsNumbered player.over player.machine.state.begun (turns + idle + 1)
+  pub played : (steps : ℕ) (start : List Entry) (us : List Taken) → HavePlayed t limit steps first start us names old was
+      → HavePlayed t limit steps first start (and_idle turn.caller idle us ++ turn ∷ []) longer new now
 
 -- ── the order ──
 
@@ -111,10 +112,10 @@ pub record HaveGone (t : Table) (limit : ℕ) (order rest : List ℕ) (names lon
   pub in_order : IsInOrder order rest (callers_from 1 t.scripts) turns now
   pub many : length now ≡ length was
 
--- The player at this place was over and nothing came, or it took a turn.
+-- The player at this place was over and nothing came, or it took a turn, and no idle one: the order names each.
 abbrev pub GoesOne : Table → (limit at : ℕ) → (names longer : List Name) → (old new : List Entry) → (was now : List Player) → Type 0
 GoesOne t limit at names longer old new was now =
-    ((p : Player) × (slice_get was at ≡ Some p) × (p.over ≡ true) × (now ≡ was) × (longer ≡ names) × (new ≡ old)) ⊎ TookTurn t limit 1 at names longer old new was now
+    ((p : Player) × (slice_get was at ≡ Some p) × (p.over ≡ true) × (now ≡ was) × (longer ≡ names) × (new ≡ old)) ⊎ TookTurn t limit 1 at 0 names longer old new was now
 
 -- A number of the order was followed: there is no such script and nothing came, or its player went on.
 abbrev pub Follows : Table → (limit c : ℕ) → (names longer : List Name) → (old new : List Entry) → (was now : List Player) → Type 0

@@ -1,5 +1,5 @@
 -- Callers that take turns over one history and one list of names.
-use Rattle.std.specs.Prelude.{◌≡◌, ◌⊎◌, ℕ, ◌+◌, ◌<◌, ◌≤◌, ◌==◌, cond, Bool, true, false, List, [], ◌∷◌, ◌++◌, length, map, Some}
+use Rattle.std.specs.Prelude.{◌≡◌, ◌⊎◌, ℕ, zero, suc, ◌+◌, ◌<◌, ◌≤◌, ◌==◌, cond, Bool, true, false, List, [], ◌∷◌, ◌++◌, length, map, Some}
 use mathlib.Core.List.{IsPrefix}
 use Rattle.hb_types.specs.declared.ids.NodeId.{NodeId}
 use Rattle.hb_tree.specs.Table.{Table}
@@ -66,6 +66,11 @@ acts_by c (u ∷ us) = cond (c == u.caller) (tagged u.begun u.acts ++ acts_by c 
 abbrev pub turns_by : ℕ → List Taken → ℕ
 turns_by c [] = 0
 turns_by c (u ∷ us) = cond (c == u.caller) 1 0 + turns_by c us
+
+-- Behind these turns so many more of a caller, which have the next numbers, and in which nothing came.
+abbrev pub and_idle : (c many : ℕ) → List Taken → List Taken
+and_idle c zero us = us
+and_idle c (suc many) us = and_idle c many (us ++ record { caller = c; begun = turns_by c us + 1; acts = [] } ∷ [])
 
 -- how many turns the turn's caller took before it: so many, and it has the next number, or none and nothing began
 abbrev pub HasNumber : List Taken → Taken → Type 0

@@ -32,7 +32,7 @@ pub fn turn_at(
     requires goes_on { (p : Player) → slice_get players.old.items at ≡ Some p → p.over ≡ false }
     requires few { first + length players.old.items ≤ 256 }
     requires played { (steps : ℕ) × (start : List Entry) × (us : List Taken) × HavePlayed prog.now tables.old.limit steps first start us names.old tables.old.log players.old.items }
-    ensures took { OnOk result (TookTurn prog.now tables.old.limit first at names.old names.new tables.old.log tables.new.log players.old.items players.new.items) }
+    ensures took { OnOk result (TookTurn prog.now tables.old.limit first at 0 names.old names.new tables.old.log tables.new.log players.old.items players.new.items) }
     ensures collects { OnOk result (AreCollected prog.now names.old names.new tables.old.log tables.new.log share.old share.new) }
     ensures limit { OnOk result (tables.new.limit ≡ tables.old.limit) }
 {

@@ -16,6 +16,7 @@ use crate::player::Player;
 use hb_call::Share;
 use hb_eval::machine::Turn;
 use hb_eval::noting::Lent;
+use hb_eval::pace::Far;
 use hb_names::PlainNames;
 use hb_tables::desk::Desk;
 use hb_tables::plain::PlainTables;
@@ -23,7 +24,7 @@ use hb_tree::program::Program;
 use hb_types::ids::CallerId;
 use std::alloc::{AllocError, Global};
 
-// The player takes its turns through one door until its run is over.
+// The player takes its turns through one door until its run is over. It takes several at once, where all but the last of them ask no table.
 fn take_turns<D: Desk>(
     alloc: Global,
     prog: &Program,
@@ -49,7 +50,7 @@ fn take_turns<D: Desk>(
     loop {
         match player
             .machine
-            .advance_unnoted(alloc, prog, desk, names, share)?
+            .advance_unnoted::<Far, _, _>(alloc, prog, desk, names, share)?
         {
             Turn::More => {}
             Turn::Ended => break,

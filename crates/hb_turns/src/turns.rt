@@ -1,6 +1,6 @@
 //! Callers that take turns over plain tables.
 
-ghost use Rattle.std.specs.Prelude.{◌≡◌, ℕ, List, [], ◌∷◌, IfOk, OnOk};
+ghost use Rattle.std.specs.Prelude.{◌≡◌, ℕ, false, List, [], ◌∷◌, IfOk, OnOk};
 ghost use mathlib.Core.List.{IsPrefix};
 ghost use Rattle.hb_tables.specs.declared.entry.Act.{Act};
 ghost use Rattle.hb_tables.specs.Plain.{AreOwn};
@@ -10,6 +10,7 @@ ghost use Rattle.hb_turns.specs.Playing.{Plays, IsUnderWay, Took};
 
 use hb_call::Share;
 use hb_eval::machine::{Machine, Turn};
+use hb_eval::pace::One;
 use hb_names::PlainNames;
 use hb_tables::plain::PlainTables;
 use hb_tree::program::Program;
@@ -34,13 +35,13 @@ pub fn take_turn(
     ensures took { OnOk result (Took prog.now caller.0 names.old names.new tables.old.log tables.new.log machine.old machine.new) }
     ensures under_way { OnOk result (IsUnderWay prog.now tables.old.limit names.new tables.new.log) }
     ensures turn { IfOk result (λ turn. Turns turn machine.old machine.new) }
-    ensures begun { IfOk result (λ turn. HasBegun turn machine.old machine.new) }
+    ensures begun { IfOk result (λ turn. HasBegun false turn machine.old machine.new) }
     ensures named { OnOk result (IsPrefix names.old names.new) }
     ensures collects { OnOk result (AreCollected prog.now names.old names.new tables.old.log tables.new.log share.old share.new) }
     ensures limit { OnOk result (tables.new.limit ≡ tables.old.limit) }
 {
     let mut desk = tables.desk(caller);
-    let turn = machine.advance_unnoted(alloc, prog, &mut desk, names, share)?;
+    let turn = machine.advance_unnoted::<One, _, _>(alloc, prog, &mut desk, names, share)?;
     // All entries that came are the caller's own.
     tables.history();
     Ok(turn)

@@ -8,7 +8,7 @@ use Rattle.hb_eval.proofs.GatheringLemmas.{shares_itself}
 use Rattle.hb_eval.proofs.StayingLemmas.{stays_itself, stays_on}
 use Rattle.hb_turns.specs.Playing.{IsAt}
 use Rattle.hb_turns.proofs.CollectingLemmas.{shared_on}
-use Rattle.hb_turns.proofs.ThroughLemmas.{number_ended, number_more, through_itself, through_turn}
+use Rattle.hb_turns.proofs.ThroughLemmas.{idle_from, number_ended, number_more, through_itself, through_turn}
 use Rattle.hb_turns.proofs.playing_out.take_turns.Goals as goal
 
 pub returns-then-player-clause-goes : goal.returns-then-player-clause-goes
@@ -33,7 +33,7 @@ loop-preserved g c =
     let came = c.in_ok-advance_unnoted.ensures in
     let stays = c.advance_unnoted.ensures.stays in
     let turned = subst (λ (turn : Turn). Turns turn c.loop.player.machine c.advance_unnoted.new.self) c.in-More.is came.turn in
-    let begun = subst (λ (turn : Turn). HasBegun turn c.loop.player.machine c.advance_unnoted.new.self) c.in-More.is came.begun in
+    let begun = subst (λ (turn : Turn). HasBegun true turn c.loop.player.machine c.advance_unnoted.new.self) c.in-More.is came.begun in
     let at = subst (λ (o : Bool). IsAt o c.advance_unnoted.new.self) (sym inv.0) turned.0 in
     let whole = stays_on _ _ _ _ _ _ _ _ _ inv.6 stays in (
       inv.0,
@@ -45,7 +45,7 @@ loop-preserved g c =
       subst (λ (door : Fixed). IsTrueCache c.args.prog.now c.advance_unnoted.new.names c.advance_unnoted.new.names door.caller (g.D.Desk.front c.advance_unnoted.new.desk)
           c.advance_unnoted.new.self.state.cache) (sym stays.fixed) (came.own.own None inv.5),
       whole,
-      through_turn _ _ _ _ _ _ _ _ _ _ c.args.player.now c.loop.player (record { machine = c.advance_unnoted.new.self; over = c.loop.player.over }) inv.6 inv.7 stays whole
+      through_turn _ _ _ _ _ _ _ _ _ _ _ c.args.player.now c.loop.player (record { machine = c.advance_unnoted.new.self; over = c.loop.player.over }) inv.6 inv.7 stays whole
           came.fine came.holding came.own came.grown c.advance_unnoted.ensures.caller c.advance_unnoted.ensures.keeps came.stands inv.0 at
           (number_more c.loop.player.over c.loop.player.machine c.advance_unnoted.new.self inv.0 begun),
       shared_on _ _ _ _ _ _ _ _ _ _ _ _ _ inv.6 stays inv.8 came.shares,
@@ -60,8 +60,8 @@ returns-clause-goes g c =
     let came = c.in_ok-advance_unnoted.ensures in
     let stays = c.advance_unnoted.ensures.stays in
     let turned = subst (λ (turn : Turn). Turns turn c.loop.player.machine c.advance_unnoted.new.self) c.in-Ended.is came.turn in
-    let begun = subst (λ (turn : Turn). HasBegun turn c.loop.player.machine c.advance_unnoted.new.self) c.in-Ended.is came.begun in
-    through_turn _ _ _ _ _ _ _ _ _ _ c.args.player.now c.loop.player (record { machine = c.advance_unnoted.new.self; over = true }) inv.6 inv.7 stays
+    let begun = subst (λ (turn : Turn). HasBegun true turn c.loop.player.machine c.advance_unnoted.new.self) c.in-Ended.is came.begun in
+    through_turn _ _ _ _ _ _ _ _ _ _ _ c.args.player.now c.loop.player (record { machine = c.advance_unnoted.new.self; over = true }) inv.6 inv.7 stays
     (stays_on _ _ _ _ _ _ _ _ _ inv.6 stays) came.fine came.holding came.own came.grown c.advance_unnoted.ensures.caller c.advance_unnoted.ensures.keeps came.stands inv.0 turned
     (number_ended c.loop.player.over c.loop.player.machine c.advance_unnoted.new.self inv.0 inv.1 begun)
 
