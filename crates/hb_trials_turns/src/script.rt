@@ -15,6 +15,7 @@ ghost use Rattle.hb_trials_turns.specs.Scripts.{IsReady, IsSameCaller};
 
 use hb_call::Share;
 use hb_eval::machine::{Machine, Turn};
+use hb_eval::pace::One;
 use hb_eval::script_run::ScriptRun;
 use hb_names::PlainNames;
 use hb_run::run_to_end;
@@ -54,7 +55,7 @@ fn advance<D: Desk>(
     ensures checks { OnOk result (IsTrueCache prog.now names.new names.new (D.fixed desk.old).caller (D.front desk.new) machine.new.state.cache) }
     ensures stays { Stays (D.fixed desk.old) (D.fixed desk.new) (D.front desk.old) (D.front desk.new) names.old names.new }
 {
-    machine.advance(alloc, prog, desk, names, &mut Share::Off)
+    machine.advance::<One, _, _>(alloc, prog, desk, names, &mut Share::Off)
 }
 
 // One turn of a machine by a seat.

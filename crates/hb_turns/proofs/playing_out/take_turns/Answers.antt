@@ -8,7 +8,7 @@ use Rattle.hb_eval.proofs.GatheringLemmas.{shares_itself}
 use Rattle.hb_eval.proofs.StayingLemmas.{stays_itself, stays_on}
 use Rattle.hb_turns.specs.Playing.{IsAt}
 use Rattle.hb_turns.proofs.CollectingLemmas.{shared_on}
-use Rattle.hb_turns.proofs.ThroughLemmas.{idle_from, number_ended, number_more, through_itself, through_turn}
+use Rattle.hb_turns.proofs.ThroughLemmas.{number_ended, number_more, through_itself, through_turn}
 use Rattle.hb_turns.proofs.playing_out.take_turns.Goals as goal
 
 pub returns-then-player-clause-goes : goal.returns-then-player-clause-goes
