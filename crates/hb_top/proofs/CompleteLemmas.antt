@@ -6,9 +6,9 @@ use Rattle.hb_gen.specs.Generated.{generated}
 use Rattle.hb_bundle.specs.Bundle.{AreTexts, HasProgram}
 use Rattle.hb_bundle.proofs.ListLemmas.{same_some}
 use Rattle.hb_bundle.proofs.OpeningLemmas.{each_opened}
-use Rattle.hb_jobs.specs.Jobs.{Derive, Gen, Options, Run, Verify, Wanted, Work}
+use Rattle.hb_jobs.specs.Jobs.{Derive, Gen, Run, Verify, Wanted, Work}
 use Rattle.hb_top.specs.Answers.{Answers, AreVerdicts, Ends, IsDueFor, IsOutcomeOf, IsReadAs, IsTextOf, IsWithin}
-use Rattle.hb_top.specs.Complete.{HasNoFault, HadNoFault, IsWholeBundle, IsComplete, IsInGrammar, Tells}
+use Rattle.hb_top.specs.Complete.{HasNoFault, IsWholeBundle, IsComplete, IsInGrammar, Tells}
 use Rattle.hb_top.specs.Derived.{IsDerived}
 use Rattle.hb_top.specs.Outcomes.{Outcome, status_of}
 use Rattle.hb_top.specs.Reports.{IsReported}

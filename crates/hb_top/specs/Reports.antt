@@ -4,6 +4,7 @@ use Rattle.std.specs.List.{AllByRecursion, list_all}
 use Rattle.hb_tree.specs.Table.{Table}
 use Rattle.hb_names.specs.Names.{Name}
 use Rattle.hb_tables.specs.declared.entry.Entry.{Entry}
+use Rattle.hb_call.specs.Held.{stands}
 use Rattle.hb_eval.specs.Told.{Told, is_done}
 use Rattle.hb_run.specs.Headline.{KeepsPromise, StopsInBodies}
 use Rattle.hb_run.specs.History.{IsHistory}
@@ -46,12 +47,13 @@ abbrev pub AreFixed : Table → Option (List ℕ) → Type 0
 AreFixed t None = length t.scripts ≤ 1
 AreFixed t (Some order) = Unit {0}
 
--- The program has these runs against one legal history, which holds each of their table calls once. Where the turns are fixed it is the one that they fix. Each call enters exactly where a fresh check succeeds, no type that a live frame uses is changed, and a stop at a node in a definition's body is for a named cause.
+-- The program has these runs against one legal history, which holds each of their table calls once. Where the turns are fixed it is the one that they fix. Each call enters exactly where a fresh check succeeds, no type that a live frame uses is changed, a stop at a node in a definition's body is for a named cause, and in the end nobody holds anything.
 pub record Ran (t : Table) (options : Options) (names : List Name) (log : List Entry) (runs : List Told) : Type 0 where
   pub history : IsHistory t options.changes options.steps names log runs
   pub in_order : AreFixed t options.order → IsOrdered t options.changes options.steps (order_or_none options) names log runs
   pub promise : KeepsPromise t names log runs
   pub bodies : AllByRecursion (StopsInBodies t) runs
+  pub free : (c q : ℕ) → stands c q log ≡ []
 
 -- the report is that of the program's runs
 pub record IsReported (t : Table) (options : Options) (len : ℕ) (o : Outcome) : Type 0 where

@@ -8,3 +8,4 @@ pub mod RunLemmas
 mod TagLemmas
 mod ThroughLemmas
 mod CollectingLemmas
+mod FreeLemmas

@@ -8,6 +8,7 @@ ghost use Rattle.hb_tables.specs.declared.entry.Act.{Act};
 ghost use Rattle.hb_tables.specs.Plain.{AreOwn};
 ghost use Rattle.hb_eval.specs.Told.{is_done, told_by};
 ghost use Rattle.hb_eval.specs.Machines.{HasEnded, IsGoing};
+ghost use Rattle.hb_call.specs.Held.{stands};
 ghost use Rattle.hb_call.specs.Sharing.{collected};
 ghost use Rattle.hb_run.specs.Headline.{KeepsPromise, StopsInBodies};
 ghost use Rattle.hb_turns.specs.Collecting.{AreCollected, Collects};
@@ -54,6 +55,7 @@ fn run_scripts(
     requires setup { AreOwn 0 tables.old.log }
     ensures collects { OnOk result (AreCollected prog.now names.old names.new tables.old.log tables.new.log share.old share.new) }
     ensures ran { IfOk result (λ all. ScriptsRan prog.now tables.old.limit steps (map (λ c. c.0) order.now) names.old names.new tables.old.log tables.new.log runs.items all.items) }
+    ensures free { OnOk result (((q : ℕ) → stands 0 q tables.old.log ≡ []) → (c q : ℕ) → stands c q tables.new.log ≡ []) }
 {
     let mut players = new_players(alloc, prog, steps)?;
     play_by_order(alloc, prog, order, &mut players, tables, names, share)?;
@@ -106,6 +108,7 @@ fn run_setup(
     requires names { names.old ≡ [] }
     ensures collects { OnOk result (AreCollected prog.now names.old names.new tables.old.log tables.new.log share.old share.new) }
     ensures ran { IfOk result (λ r. HasRun prog.now steps 0 names.new tables.new.log (told_by r)) }
+    ensures free { OnOk result ((c q : ℕ) → stands c q tables.new.log ≡ []) }
     ensures under_way { OnOk result (IsUnderWay prog.now tables.old.limit names.new tables.new.log) }
     ensures own { OnOk result (AreOwn 0 tables.new.log) }
     ensures limit { OnOk result (tables.new.limit ≡ tables.old.limit) }
@@ -139,6 +142,7 @@ fn run_all(
     requires names { names.old ≡ [] }
     ensures collects { OnOk result (AreCollected prog.now names.old names.new tables.old.log tables.new.log share.old share.new) }
     ensures ordered { IfOk result (λ runs. IsOrdered prog.now tables.old.limit steps (map (λ c. c.0) order.now) names.new tables.new.log (map told_by runs.items)) }
+    ensures free { OnOk result ((c q : ℕ) → stands c q tables.new.log ≡ []) }
 {
     let mut runs = Vec::new(alloc);
     match prog.setup() {
@@ -173,6 +177,8 @@ pub fn run_ordered(
     ensures collects { IfOk result (λ r. Collects prog.now r.names [] r.history.items (collected share.old) (collected share.new)) }
     ensures ordered { IfOk result (λ r. IsOrdered prog.now versions steps (map (λ c. c.0) order.now) r.names r.history.items (map told_by r.runs.items)) }
     ensures promise { IfOk result (λ r. KeepsPromise prog.now r.names r.history.items (map told_by r.runs.items)) }
+    // However a run ended, nobody holds anything.
+    ensures free { IfOk result (λ r. (c q : ℕ) → stands c q r.history.items ≡ []) }
     // Where no node is reached twice, a stop at a node in a body is for a named cause.
     ensures bodies { IsReachedOnce prog.now → IfOk result (λ r. AllByRecursion (StopsInBodies prog.now) (map told_by r.runs.items)) }
 {

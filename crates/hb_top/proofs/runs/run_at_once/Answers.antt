@@ -1,5 +1,4 @@
-use Rattle.std.proofs.Common.{map, subst, arith}
-use Rattle.hb_eval.specs.Told.{told_by}
+use Rattle.std.proofs.Common.{subst, arith}
 use Rattle.hb_jobs.specs.Jobs.{options_told}
 use Rattle.hb_words.specs.Seats.{history}
 use Rattle.hb_top.specs.Reports.{AreFixed}
@@ -13,6 +12,7 @@ returns-clause-ran g c =
       in_order = λ fixed. absurd (let few = subst (AreFixed c.args.program.now) c.requires.unordered fixed in let many = c.requires.many in omega (arith, few, many));
       promise = c.histories_keep_the_promise.ensures.promise _ _ _ _ _ _ came.history;
       bodies = c.histories_keep_the_promise.ensures.bodies _ _ _ _ _ _ c.requires.is c.requires.once came.history;
+      free = came.free;
     }
 
 pub returns-clause-kept : goal.returns-clause-kept

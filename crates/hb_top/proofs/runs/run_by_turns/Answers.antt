@@ -17,4 +17,5 @@ returns-clause-ran c =
       in_order = λ fixed. ordered;
       promise = c.in_ok-ran.ensures.promise;
       bodies = c.in_ok-ran.ensures.bodies c.requires.once;
+      free = c.in_ok-ran.ensures.free;
     }

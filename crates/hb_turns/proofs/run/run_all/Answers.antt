@@ -1,6 +1,7 @@
 use Rattle.std.proofs.Common.{ℕ, List, [], ◌∷◌, ◌++◌, ◌≡◌, ap, map, sym, subst, ◌∙◌, rules, true, false}
 use Rattle.hb_names.specs.Names.{Name}
 use Rattle.hb_tables.specs.declared.entry.Entry.{Entry}
+use Rattle.hb_call.specs.Held.{stands}
 use Rattle.hb_eval.specs.declared.script_run.ScriptRun.{ScriptRun}
 use Rattle.hb_eval.specs.Told.{is_done}
 use Rattle.hb_turns.specs.Playing.{IsUnderWay}
@@ -28,6 +29,7 @@ returns-then-not-done c =
       ordered = ordered_stopped t limit c.args.steps order c.run_setup.new.names c.run_setup.new.tables.log c.in-Some.block r c.push.new.self.items
           (sym c.setup.ensures.value ∙ c.in-Some.is) one came.own under_way came.ran stopped;
       collects = came.collects;
+      free = came.free;
     }
 
 pub returns-in_ok-runs-in-None : goal.returns-in_ok-runs-in-None
@@ -43,6 +45,7 @@ returns-in_ok-runs-in-None c =
       ordered = ordered_none t limit c.args.steps order c.run_scripts.new.names c.run_scripts.new.tables.log c.new-runs.result.items c.in_ok-runs-in-None.runs.items
           (sym c.setup.ensures.value ∙ c.in-None.is) c.new-runs.ensures.items ran;
       collects = c.in_ok-runs-in-None.ensures.collects;
+      free = c.in_ok-runs-in-None.ensures.free (λ q. ap (λ (l : List Entry). stands 0 q l) c.requires.log);
     }
 
 pub returns-in_ok-runs-in-Some : goal.returns-in_ok-runs-in-Some
@@ -62,4 +65,5 @@ returns-in_ok-runs-in-Some c =
           c.push.new.self.items c.in_ok-runs-in-Some.runs.items) came.limit c.in_ok-runs-in-Some.ensures.ran);
       collects = collected_on t c.args.names.now c.run_setup.new.names c.run_scripts-in-Some.new.names c.args.tables.now.log c.run_setup.new.tables.log c.run_scripts-in-Some.new.tables.log
           c.args.share.now c.run_setup.new.share c.run_scripts-in-Some.new.share came.collects c.in_ok-runs-in-Some.ensures.collects;
+      free = c.in_ok-runs-in-Some.ensures.free (came.free 0);
     }

@@ -1,6 +1,7 @@
-use Rattle.std.proofs.Common.{List, map, sym, subst}
+use Rattle.std.proofs.Common.{◌≡◌, ℕ, List, [], map, sym, subst}
 use Rattle.hb_names.specs.Names.{Name}
 use Rattle.hb_tables.specs.declared.entry.Entry.{Entry}
+use Rattle.hb_call.specs.Held.{stands}
 use Rattle.hb_eval.specs.Told.{told_by}
 use Rattle.hb_run.specs.Headline.{KeepsPromise}
 use Rattle.hb_turns.proofs.run.run_ordered.Goals as goal
@@ -15,3 +16,6 @@ returns-clause-promise c =
 
 pub returns-clause-bodies : goal.returns-clause-bodies
 returns-clause-bodies c once = c.histories_keep_the_promise.ensures.bodies _ _ _ _ _ _ c.nodes-nodes.ensures.program once c.in_ok-runs.ensures.ordered.history
+
+pub returns-clause-free : goal.returns-clause-free
+returns-clause-free c = subst (λ (log : List Entry). (d q : ℕ) → stands d q log ≡ []) (sym c.into_history.ensures) c.in_ok-runs.ensures.free

@@ -2,6 +2,7 @@ use Rattle.std.proofs.Common.{map, ℕ, sym, subst}
 use Rattle.hb_turns.specs.Players.{GoOn, HavePlayed}
 use Rattle.hb_turns.proofs.CollectingLemmas.{collected_on}
 use Rattle.hb_turns.proofs.FinishLemmas.{ended_all}
+use Rattle.hb_turns.proofs.FreeLemmas.{scripts_free}
 use Rattle.hb_turns.proofs.RunLemmas.{played_none, scripts_ran}
 use Rattle.hb_turns.proofs.run.run_scripts.Goals as goal
 
@@ -48,4 +49,8 @@ returns c =
           had c.in_ok-players.ensures.many gone go c.in_ok-play_out.ensures.over fin.1 fin.2;
       collects = collected_on c.args.prog.now c.args.names.now c.play_by_order.new.names c.play_out.new.names c.args.tables.now.log c.play_by_order.new.tables.log c.play_out.new.tables.log
           c.args.share.now c.play_by_order.new.share c.play_out.new.share c.in_ok-play_by_order.ensures.collects c.in_ok-play_out.ensures.collects;
+      free = scripts_free c.args.prog.now c.args.tables.now.limit c.args.steps
+          (map (λ x. x.0) c.args.order.now) c.args.names.now c.play_by_order.new.names c.play_out.new.names c.args.tables.now.log c.play_by_order.new.tables.log c.play_out.new.tables.log
+          c.in_ok-players.players.items c.play_by_order.new.players.items c.play_out.new.players.items
+          had c.in_ok-players.ensures.many gone go c.in_ok-play_out.ensures.over;
     }
