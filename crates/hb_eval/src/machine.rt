@@ -314,9 +314,13 @@ impl Machine {
         }
     }
 
-    // What begins next begins, as the pace has it.
+    // What begins next begins, as the pace has it. For each kind of desk it is a function of its own, so that it has one caller, into which it is taken in.
     #[inline(always)]
-    fn begin_one<P: Pace>(&mut self, alloc: Global, prog: &Program) -> Result<(), AllocError>
+    fn begin_one<P: Pace, D: Desk>(
+        &mut self,
+        alloc: Global,
+        prog: &Program,
+    ) -> Result<(), AllocError>
         requires fine { IsFineMachine prog.now self.old }
         requires begins { self.old.hand ≡ hands.Begins }
         ensures begins { (c : ℕ) (known asked : List Name) (log : List Entry) → OnOk result (Begins P.far prog.now c known known asked asked log log self.old self.new) }
@@ -355,7 +359,7 @@ impl Machine {
         ensures caller { self.new.caller ≡ self.old.caller }
         ensures journal { self.new.journal ≡ self.old.journal }
     {
-        self.begin_one::<P>(alloc, prog)?;
+        self.begin_one::<P, D>(alloc, prog)?;
         self.settle(alloc, prog, desk, names, share)
     }
 
