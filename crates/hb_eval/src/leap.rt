@@ -18,6 +18,7 @@ use crate::state::{Hand, State};
 use crate::steps::{assign, left};
 use crate::stop::Fail;
 use crate::value::Value;
+use hb_tables::desk::Desk;
 use hb_tree::node::{Node, Op};
 use hb_tree::program::Program;
 use hb_types::ids::{NameId, NodeId};
@@ -208,9 +209,9 @@ fn leap_loop(
     }
 }
 
-/// The expression that begins next begins together with what is read of it, where there is fuel for all of them. What began last is not told.
+/// The expression that begins next begins together with what is read of it, where there is fuel for all of them. It is a function of its own for each kind of desk, though it asks none.
 #[inline(always)]
-pub(crate) fn leap(
+pub(crate) fn leap<D: Desk>(
     alloc: Global,
     prog: &Program,
     state: &mut State,

@@ -296,7 +296,7 @@ impl Machine {
 
     // What begins next begins together with what is read of it.
     #[inline(always)]
-    fn begin_far(&mut self, alloc: Global, prog: &Program) -> Result<(), AllocError>
+    fn begin_far<D: Desk>(&mut self, alloc: Global, prog: &Program) -> Result<(), AllocError>
         requires fine { IsFineMachine prog.now self.old }
         requires begins { self.old.hand ≡ hands.Begins }
         ensures begins { (c : ℕ) (known asked : List Name) (log : List Entry) → OnOk result (Begins true prog.now c known known asked asked log log self.old self.new) }
@@ -305,7 +305,7 @@ impl Machine {
         ensures caller { self.new.caller ≡ self.old.caller }
         ensures journal { self.new.journal ≡ self.old.journal }
     {
-        match leap(alloc, prog, &mut self.state, &mut self.conts)? {
+        match leap::<D>(alloc, prog, &mut self.state, &mut self.conts)? {
             Some(hand) => {
                 self.hand = hand;
                 Ok(())
@@ -314,7 +314,7 @@ impl Machine {
         }
     }
 
-    // What begins next begins, as the pace has it. For each kind of desk it is a function of its own, so that it has one caller, into which it is taken in.
+    // What begins next begins, as the pace has it. Like a leap it is a function of its own for each kind of desk, so that it has one caller, into which it is taken in.
     #[inline(always)]
     fn begin_one<P: Pace, D: Desk>(
         &mut self,
@@ -330,7 +330,7 @@ impl Machine {
         ensures journal { self.new.journal ≡ self.old.journal }
     {
         if P::is_far() {
-            self.begin_far(alloc, prog)
+            self.begin_far::<D>(alloc, prog)
         } else {
             self.begin_alone(alloc, prog)
         }
